@@ -1,0 +1,4 @@
+pub mod Padded
+pub mod Options
+pub mod Lists
+pub mod Faults

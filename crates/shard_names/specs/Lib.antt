@@ -1,0 +1,3 @@
+pub mod Alias
+pub mod ShardName
+pub mod Tablets
