@@ -1,4 +1,4 @@
-ghost use Rattle.std.specs.Prelude.{◌≡◌, ◌==◌, [], ◌∷◌, ◌++◌, length, OnOk, OnErr, IfOk};
+ghost use Rattle.std.specs.Prelude.{◌≡◌, ◌==◌, [], ◌∷◌, ◌++◌, length, take, OnOk, OnErr, IfOk};
 ghost use Rattle.std.specs.List.{AllZip};
 ghost use Rattle.std.specs.Cmp.Lexicographic.{pointwise, lists_per, lists_equiv};
 
@@ -71,6 +71,13 @@ impl<T> Items<T> {
 }
 
 impl<T: Drop> Items<T> {
+    /// Keeps the first `n` items.
+    pub fn truncate(&mut self, n: usize)
+        ensures { self.new ≡ take n self.old }
+    {
+        self.items.truncate(n);
+    }
+
     /// Puts an item at the end. Want of memory leaves the items as they were, and drops the new one.
     pub fn push(&mut self, item: T) -> Result<(), OutOfMemory>
         ensures ok { OnOk result (self.new ≡ self.old ++ item ∷ []) }

@@ -1,0 +1,25 @@
+-- What a contract sees of a shard: its tablets, and the steps that it has made.
+use Rattle.std.specs.Prelude.{◌≡◌, ℕ, List, [], ◌∷◌, ◌++◌}
+use Rattle.shard_names.specs.declared.tablet.Tablet.{Tablet}
+use Rattle.shard_core.specs.declared.event.Event.{Event}
+use Rattle.shard_core.specs.declared.event.Reply.{Reply}
+use Rattle.shard_core.specs.declared.event.Step.{Step}
+use Rattle.shard_core.specs.World.{Config, World, opening}
+use Rattle.shard_core.specs.Table.{Met, answer, step_of, world_after}
+
+pub record Kept : Type 0 where
+  pub tablets : List Tablet
+  pub steps : List Step
+
+abbrev pub config_of : Kept → Config
+config_of k = record { tablets = k.tablets }
+
+-- the world that the steps have led to
+abbrev pub world_of : Kept → World
+world_of k = world_after (config_of k) opening k.steps
+
+-- one more step, by this event's row
+pub record Makes (old new : Kept) (event : Event) : Type 0 where
+  pub met : Met (config_of old) (world_of old) event
+  pub tablets : new.tablets ≡ old.tablets
+  pub steps : new.steps ≡ old.steps ++ step_of (config_of old) (world_of old) event ∷ []
