@@ -5,3 +5,5 @@ pub mod RunLemmas
 pub mod OpeningLemmas
 pub mod PromotionLemmas
 pub mod ToldLemmas
+pub mod CauseLemmas
+pub mod SafeLemmas

@@ -122,7 +122,7 @@ written_on config w (events.End c x) met h = tt
 
 -- ---- what an answer tells
 
-gtid_is : (a b : Gtid) → gtid_eq a b ≡ true → a ≡ b
+pub gtid_is : (a b : Gtid) → gtid_eq a b ≡ true → a ≡ b
 gtid_is a b h =
     let servers : a.server ≡ b.server = (bytes_eq-Decides a.server b.server).0 (both_left (bytes_eq a.server b.server) _ h) in
     let numbers : a.number ≡ b.number = (Decides-eqb a.number b.number).0 (both_right (bytes_eq a.server b.server) _ h) in

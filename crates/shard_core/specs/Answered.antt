@@ -29,10 +29,13 @@ begun_by (events.End c x) = []
 abbrev pub commands_of : List Step → List Command
 commands_of steps = flat_map (λ s. begun_by s.event) steps
 
--- the command of a number, counted from 1
+-- the element of a number, counted from 1
+abbrev pub numbered : {A : Type 0} → List A → ℕ → Option A
+numbered xs zero = None
+numbered xs (suc n) = slice_get xs n
+
 abbrev pub command_of : List Step → ℕ → Option Command
-command_of steps zero = None
-command_of steps (suc n) = slice_get (commands_of steps) n
+command_of steps c = numbered (commands_of steps) c
 
 -- command c promoted this tablet with this transaction
 abbrev pub Promotes : List Step → ℕ → Alias → Gtid → Type 0

@@ -3,6 +3,6 @@ pub mod World
 pub mod Causes
 pub mod Table
 pub mod Promotions
+pub mod Answered
 pub mod Kept
 pub mod Places
-pub mod Answered

@@ -11,4 +11,5 @@ mod world;
 
 pub use command::{Bar, Command, CommandAnswer, Refusal};
 pub use event::{Event, History, Reply, Step};
+pub use places::is_eligible;
 pub use shard::{MOST_STEPS, Refused, Shard};

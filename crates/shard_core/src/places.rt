@@ -22,7 +22,8 @@ pub(crate) fn find_place(places: &[Place], alias: &Alias) -> Option<usize>
     place_at(places, alias)
 }
 
-fn is_eligible(tablet: &Tablet) -> bool
+/// Whether the tablet may be promoted: under the policy `none` a replica may, and no other type.
+pub fn is_eligible(tablet: &Tablet) -> bool
     ensures { result ≡ is_eligible tablet.now }
 {
     match tablet.kind {
@@ -36,19 +37,27 @@ fn is_eligible(tablet: &Tablet) -> bool
 pub(crate) fn is_eligible_alias(places: &[Place], alias: &Alias) -> bool
     ensures { result ≡ may_be_promoted (tablet_of (tablets_of places.now) alias.now) }
 {
-    match find_place(places, alias) {
-        Some(at) => is_eligible(&places[at].tablet),
+    match find_tablet(places, alias) {
+        Some(tablet) => is_eligible(&tablet),
         None => false,
     }
 }
 
+/// The tablet with this alias.
+pub(crate) fn find_tablet(places: &[Place], alias: &Alias) -> Option<Tablet>
+    ensures { result ≡ tablet_of (tablets_of places.now) alias.now }
+{
+    match find_place(places, alias) {
+        Some(at) => Some(places[at].tablet),
+        None => None,
+    }
+}
+
+/// Whether the alias is declared.
 pub(crate) fn is_declared(places: &[Place], alias: &Alias) -> bool
     ensures { result ≡ is_declared (tablets_of places.now) alias.now }
 {
-    match find_place(places, alias) {
-        Some(_) => true,
-        None => false,
-    }
+    find_tablet(places, alias).is_some()
 }
 
 impl Place {

@@ -1,12 +1,12 @@
 ghost use Rattle.std.specs.Prelude.{◌≡◌, ◌<◌, ◌≤◌, ◌↔◌, ◌++◌, ◌∷◌, [], ℕ, true, false, length, IfOk, OnOk, OnErr, IsErrOf, map};
-ghost use Rattle.shard_names.specs.Tablets.{AreTablets};
+ghost use Rattle.shard_names.specs.Tablets.{AreTablets, tablet_of};
 ghost use Rattle.shard_core.specs.World.{Config, opening};
-ghost use Rattle.shard_core.specs.Table.{Met, meets, answer, row_number, step_of, IsRun};
-ghost use Rattle.shard_core.specs.Promotions.{OnePromotion, KeepsTold};
+ghost use Rattle.shard_core.specs.Table.{Met, meets, answer, row_number, step_of};
 ghost use Rattle.shard_core.specs.Places.{Data, data_of, seen, config_in, Leads, world_seen, opened};
 
 use crate::changes::{answer, change};
 use crate::conditions::{meets, row_number};
+use crate::places::find_tablet;
 use crate::world::{Fields, Place};
 use crate::{Command, CommandAnswer, Event, History, Refusal, Reply, Step};
 use shard_base::{Items, OutOfMemory};
@@ -100,7 +100,7 @@ fn opened_places(alloc: Global, tablets: &[Tablet]) -> Result<Vec<Place>, OutOfM
 }
 
 impl Shard {
-    ghost use Rattle.shard_core.specs.Kept.{Kept, Makes, config_of, world_of};
+    ghost use Rattle.shard_core.specs.Kept.{Makes, IsSafe, config_of, world_of};
 
     /// A shard of these tablets to which nothing has happened.
     pub fn new(alloc: Global, tablets: &[Tablet]) -> Result<Shard, OutOfMemory>
@@ -129,15 +129,20 @@ impl Shard {
         &self.history
     }
 
-    /// The history, without the shard: a run of these tablets, which promotes once a term and keeps what it told.
+    /// The history, without the shard: a run of the machine, with all that holds of every run. It takes no memory.
     pub fn into_history(self) -> History
         ensures steps { result.steps ≡ self.steps }
-        ensures run { IsRun (config_of self) result.steps }
-        ensures one_promotion { OnePromotion (config_of self) result.steps }
-        ensures keeps_told { KeepsTold (config_of self) result.steps }
+        ensures safe { IsSafe self.tablets result.steps }
     {
         let Shard { history, .. } = self;
         history
+    }
+
+    /// The tablet with this alias. It takes no memory.
+    pub fn tablet(&self, alias: &Alias) -> Option<Tablet>
+        ensures { result ≡ tablet_of self.now.tablets alias.now }
+    {
+        find_tablet(&self.fields.places, alias)
     }
 
     /// The recorded primary. It takes no memory.
