@@ -15,7 +15,13 @@ last_place (x ∷ []) = refl
 last_place (x ∷ y ∷ ys) =
     let place : length (x ∷ y ∷ ys) - 1 ≡ suc (length (y ∷ ys) - 1) = omega arith in rw place (last_place (y ∷ ys))
 
--- one more at the end
+-- one more at the end is the last
+pub last_of-push : {A : Type 0} (xs : List A) (x : A) → last_of (xs ++ x ∷ []) ≡ Some x
+last_of-push [] x = refl
+last_of-push (y ∷ []) x = refl
+last_of-push (y ∷ z ∷ zs) x = last_of-push (z ∷ zs) x
+
+-- what holds of each, with one more at the end
 pub AllByRecursion-push : {A : Type 0} (P : A → Type 0) (xs : List A) (x : A) → AllByRecursion P xs → P x → AllByRecursion P (xs ++ x ∷ [])
 AllByRecursion-push P [] x all here = (here, tt)
 AllByRecursion-push P (y ∷ ys) x all here = (all.0, AllByRecursion-push P ys x all.1 here)

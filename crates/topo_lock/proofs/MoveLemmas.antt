@@ -61,8 +61,8 @@ term_steps (Goes before last) = omega (arith, term_steps before, term_step last)
 pub term_never_falls : TermNeverFalls TopoMove
 term_never_falls s t m = term_step m
 
-pub term_never_falls_on : TermNeverFalls TopoMoves
-term_never_falls_on s t m = term_steps m
+pub term_never_falls_over_steps : TermNeverFalls TopoMoves
+term_never_falls_over_steps s t m = term_steps m
 
 -- ---- intents stay
 
@@ -88,8 +88,8 @@ front_steps (Goes before last) = further (front_steps before) (front_step last)
 pub intents_stay : IntentsStay TopoMove
 intents_stay s t m = front_step m
 
-pub intents_stay_on : IntentsStay TopoMoves
-intents_stay_on s t m = front_steps m
+pub intents_stay_over_steps : IntentsStay TopoMoves
+intents_stay_over_steps s t m = front_steps m
 
 -- what a longer list still finds
 found_in_front : (u : ℕ) (is js : List Intent) (i : Intent) → IsFront is js → find (λ j. j.term == u) is ≡ Some i → find (λ j. j.term == u) js ≡ Some i
@@ -98,8 +98,8 @@ found_in_front u is js i front found = rw front.split (find-append (λ j. j.term
 pub intent_of_term_stays : IntentOfTermStays TopoMove
 intent_of_term_stays s t u i m found = found_in_front u s.intents t.intents i (front_step m) found
 
-pub intent_of_term_stays_on : IntentOfTermStays TopoMoves
-intent_of_term_stays_on s t u i m found = found_in_front u s.intents t.intents i (front_steps m) found
+pub intent_of_term_stays_over_steps : IntentOfTermStays TopoMoves
+intent_of_term_stays_over_steps s t u i m found = found_in_front u s.intents t.intents i (front_steps m) found
 
 -- ---- one intent a term
 
@@ -119,8 +119,8 @@ once_steps (Goes before last) once = once_step last (once_steps before once)
 pub keeps_each_term_once : KeepsEachTermOnce TopoMove
 keeps_each_term_once s t m once = once_step m once
 
-pub keeps_each_term_once_on : KeepsEachTermOnce TopoMoves
-keeps_each_term_once_on s t m once = once_steps m once
+pub keeps_each_term_once_over_steps : KeepsEachTermOnce TopoMoves
+keeps_each_term_once_over_steps s t m once = once_steps m once
 
 -- ---- no intent above the term
 
@@ -141,8 +141,8 @@ within_steps (Goes before last) within = within_step last (within_steps before w
 pub keeps_terms_within : KeepsTermsWithin TopoMove
 keeps_terms_within s t m within = within_step m within
 
-pub keeps_terms_within_on : KeepsTermsWithin TopoMoves
-keeps_terms_within_on s t m within = within_steps m within
+pub keeps_terms_within_over_steps : KeepsTermsWithin TopoMoves
+keeps_terms_within_over_steps s t m within = within_steps m within
 
 -- ---- past terms
 
@@ -164,8 +164,8 @@ settled_steps u (Goes before last) past = settled_step u last (omega (arith, pas
 pub past_terms_are_settled : PastTermsAreSettled TopoMove
 past_terms_are_settled s t u m past = settled_step u m past
 
-pub past_terms_are_settled_on : PastTermsAreSettled TopoMoves
-past_terms_are_settled_on s t u m past = settled_steps u m past
+pub past_terms_are_settled_over_steps : PastTermsAreSettled TopoMoves
+past_terms_are_settled_over_steps s t u m past = settled_steps u m past
 
 -- ---- the terms rise
 
@@ -185,8 +185,8 @@ rise_steps (Goes before last) within rise = rise_step last (within_steps before 
 pub keeps_terms_rise : KeepsTermsRise TopoMove
 keeps_terms_rise s t m within rise = rise_step m within rise
 
-pub keeps_terms_rise_on : KeepsTermsRise TopoMoves
-keeps_terms_rise_on s t m within rise = rise_steps m within rise
+pub keeps_terms_rise_over_steps : KeepsTermsRise TopoMoves
+keeps_terms_rise_over_steps s t m within rise = rise_steps m within rise
 
 -- ---- a lost lock
 
@@ -206,8 +206,8 @@ lost_steps u (Goes before last) past lost = lost_step u last (omega (arith, past
 pub lost_lock_stays_lost : LostLockStaysLost TopoMove
 lost_lock_stays_lost s t u m past lost = lost_step u m past lost
 
-pub lost_lock_stays_lost_on : LostLockStaysLost TopoMoves
-lost_lock_stays_lost_on s t u m past lost = lost_steps u m past lost
+pub lost_lock_stays_lost_over_steps : LostLockStaysLost TopoMoves
+lost_lock_stays_lost_over_steps s t u m past lost = lost_steps u m past lost
 
 -- ---- from the fresh topology
 

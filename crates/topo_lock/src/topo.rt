@@ -1,6 +1,6 @@
 ghost use Rattle.std.specs.Prelude.{◌≡◌, ◌<◌, ◌≤◌, ◌+◌, ◌-◌, ◌^◌, ◌⊎◌, ◌↔◌, nat_eq, true, false, IsTrue, IsErr, IsSome, IfOk, OnOk, OnErr};
 ghost use Rattle.std.specs.List.{find};
-ghost use Rattle.topo_lock.specs.Topology.{fresh, is_held, is_held_in, intent_of, last_of, last_intent, IntendsLast, IntendsAnother, answer_take, after_take, answer_intend, after_intend, held_or_lost, answer_record, after_record, after_release, after_lapse};
+ghost use Rattle.topo_lock.specs.Topology.{fresh, is_held, is_held_in, intent_of, last_intent, IntendsLast, IntendsAnother, answer_take, after_take, answer_intend, after_intend, held_or_lost, answer_record, after_record, after_release, after_lapse};
 ghost use Rattle.topo_lock.specs.State.{spare_after_intend};
 ghost use Rattle.topo_lock.specs.Laws.{TermsRise, TermsWithin};
 

@@ -5,4 +5,4 @@ pub returns-clause-step : goal.returns-clause-step
 returns-clause-step c = moves.lost_lock_stays_lost
 
 pub returns-clause-steps : goal.returns-clause-steps
-returns-clause-steps c = moves.lost_lock_stays_lost_on
+returns-clause-steps c = moves.lost_lock_stays_lost_over_steps

@@ -5,4 +5,4 @@ pub returns-clause-step : goal.returns-clause-step
 returns-clause-step c = moves.past_terms_are_settled
 
 pub returns-clause-steps : goal.returns-clause-steps
-returns-clause-steps c = moves.past_terms_are_settled_on
+returns-clause-steps c = moves.past_terms_are_settled_over_steps

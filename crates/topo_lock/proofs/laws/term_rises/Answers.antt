@@ -5,4 +5,4 @@ pub returns-clause-step : goal.returns-clause-step
 returns-clause-step c = moves.term_never_falls
 
 pub returns-clause-steps : goal.returns-clause-steps
-returns-clause-steps c = moves.term_never_falls_on
+returns-clause-steps c = moves.term_never_falls_over_steps
