@@ -1,4 +1,5 @@
--- The laws of the lock with terms: what holds of every topology, and over every list of steps.
+-- The laws of the lock with terms: what holds of every topology, and over every list of steps. After Sougoumarane's "Consensus
+-- algorithms at scale": a term is used once, it names one leader, and who held an older one is found out.
 use Rattle.std.specs.Prelude.{◌≡◌, ◌≢◌, ℕ, ◌<◌, ◌≤◌, false, List, [], ◌∷◌, ⊤, Some}
 use Rattle.std.specs.List.{AllByRecursion}
 use Rattle.shard_base.specs.Lists.{IsFront}

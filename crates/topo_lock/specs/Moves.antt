@@ -1,4 +1,4 @@
--- What a step may do to a topology.
+-- What a step may do to a topology. After the lock with terms of Sougoumarane's "Consensus algorithms at scale".
 use Rattle.std.specs.Prelude.{ℕ}
 use Rattle.shard_names.specs.declared.alias.Alias.{Alias}
 use Rattle.topo_lock.specs.declared.lock.Holder.{Holder}
