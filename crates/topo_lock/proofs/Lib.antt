@@ -1,0 +1,3 @@
+pub mod IntentLemmas
+pub mod MoveLemmas
+pub mod AnswerLemmas
