@@ -1,0 +1,9 @@
+pub mod Streams
+pub mod Lines
+pub mod Script
+pub mod Grammar
+pub mod Played
+pub mod Goes
+pub mod Texts
+pub mod Words
+pub mod Program

@@ -1,0 +1,58 @@
+-- What a source gives and a sink takes, and when they may fail: the calls of `std::io::Read` and `std::io::Write`, with counts of faults.
+use Rattle.std.specs.Prelude.{◌≡◌, ◌<◌, ◌≤◌, ℕ, ◌+◌, ◌-◌, ◌^◌, min, List, ◌++◌, take, length, Contains, Option, Some, None, ⊤}
+use Rattle.std.specs.Io.KnownBytes.{Appends, Consumes, IsAtEnd}
+
+-- the bytes of a script, and one more where there are too many
+unfoldable pub front : List ℕ → List ℕ
+front bytes = take 65537 bytes
+
+-- the bytes that were left, or the first 65,537 of them
+abbrev pub WasRead : Option (List ℕ) → List ℕ → Type 0
+WasRead None text = ⊤
+WasRead (Some bytes) text = text ≡ front bytes
+
+-- n bytes were read behind the text: none only at the end
+pub record Reads (old new : Option (List ℕ)) (before after : List ℕ) (n : ℕ) : Type 0 where
+  pub count : length after ≡ length before + n
+  pub within : length after ≤ 65537
+  pub bytes : (bs : List ℕ) × (after ≡ before ++ bs) × Consumes old new bs
+  pub end : n ≡ 0 → IsAtEnd new
+
+-- a front of what was left is gone
+abbrev pub ConsumesFront : Option (List ℕ) → Option (List ℕ) → Type 0
+ConsumesFront old new = (bs : List ℕ) × Consumes old new bs
+
+-- a front of the bytes was put
+abbrev pub AppendsFront : Option (List ℕ) → Option (List ℕ) → List ℕ → Type 0
+AppendsFront old new bytes = (n : ℕ) × (n ≤ length bytes) × Appends old new (take n bytes)
+
+-- what a source in memory has left, the most that a call gives, the calls that fail, and how many calls and faults there were
+pub record SourceState : Type 0 where
+  pub left : List ℕ
+  pub piece : ℕ
+  pub fails : List ℕ
+  pub calls : ℕ
+  pub faults : ℕ
+
+-- what a sink in memory has taken, the most that it takes in all and in a call, the calls that fail, and how many calls and faults there were
+pub record SinkState : Type 0 where
+  pub taken : List ℕ
+  pub room : ℕ
+  pub piece : ℕ
+  pub fails : List ℕ
+  pub calls : ℕ
+  pub faults : ℕ
+
+-- The list names the call after this many. Calls are counted up to the last number of 64 bits, and from then on none is named.
+pub record IsNamed (fails : List ℕ) (calls : ℕ) : Type 0 where
+  pub counted : calls < 2 ^ 64 - 1
+  pub named : Contains fails (calls + 1)
+
+-- one more, up to the last number of 64 bits
+abbrev pub next_count : ℕ → ℕ
+next_count n = min (n + 1) (2 ^ 64 - 1)
+
+-- there is a byte to take, and no room for it
+pub record IsFull (sink : SinkState) (bytes : ℕ) : Type 0 where
+  pub asked : 0 < bytes
+  pub full : sink.room ≤ length sink.taken

@@ -1,0 +1,277 @@
+ghost use Rattle.std.specs.Prelude.{◌≡◌, ◌++◌, IfOk, OnOk, Some, codes};
+ghost use Rattle.std.specs.Option.{option_copied};
+ghost use Rattle.std.specs.List.{flat_map};
+ghost use Rattle.std.specs.Fmt.{decimal};
+ghost use Rattle.shard_names.specs.Alias.{alias_text};
+ghost use Rattle.shard_core.specs.Answered.{begun_by, commands_of, numbered};
+ghost use Rattle.shard_top.specs.Texts.{head_text, bar_text, refusal_text, said_text, answer_text, event_text, text_of, is_refused, refuses, has_refusal, usage_text, fault_text, read_fault_text};
+ghost use Rattle.shard_core.specs.declared.command.CommandAnswer.TheVariants as answers;
+
+use gtid_sets::Gtid;
+use itoa::Buffer;
+use shard_base::OutOfMemory;
+use shard_core::{Bar, Command, CommandAnswer, Event, Refusal, Step};
+use shard_names::Alias;
+use std::alloc::Global;
+
+/// Appends the decimal digits.
+fn write_number(number: u64, into: &mut Vec<u8>) -> Result<(), OutOfMemory>
+    ensures { OnOk result (into.new.items ≡ into.old.items ++ decimal number) }
+{
+    let mut buffer = Buffer::new();
+    into.extend_from_slice(buffer.format(number).as_bytes())?;
+    Ok(())
+}
+
+/// Appends the command's word, and the shard that it was given.
+#[tactic(auto, unfolding(crate::specs::Texts::head_text))]
+fn write_head(command: &Command, into: &mut Vec<u8>) -> Result<(), OutOfMemory>
+    ensures { OnOk result (into.new.items ≡ into.old.items ++ head_text (Some command.now)) }
+{
+    match command {
+        Command::Planned { shard, .. } => {
+            into.extend_from_slice(b"PlannedReparentShard ")?;
+            shard.write(into)
+        }
+        Command::Write => {
+            into.extend_from_slice(b"write")?;
+            Ok(())
+        }
+    }
+}
+
+fn write_bar(bar: &Bar, into: &mut Vec<u8>) -> Result<(), OutOfMemory>
+    ensures { OnOk result (into.new.items ≡ into.old.items ++ bar_text bar.now) }
+{
+    match bar {
+        Bar::MustNot => {
+            into.extend_from_slice(b"must_not")?;
+            Ok(())
+        }
+    }
+}
+
+/// Appends the number and the text of a refusal.
+#[tactic(auto, unfolding(crate::specs::Texts::refusal_text))]
+fn write_refusal(refusal: &Refusal, into: &mut Vec<u8>) -> Result<(), OutOfMemory>
+    ensures { OnOk result (into.new.items ≡ into.old.items ++ refusal_text refusal.now) }
+{
+    match refusal {
+        Refusal::NoSuchTablet { alias } => {
+            into.extend_from_slice(b"3 NoSuchTablet: ")?;
+            alias.write(into)
+        }
+        Refusal::NotEligible { alias, bar } => {
+            into.extend_from_slice(b"4 NotEligible: ")?;
+            alias.write(into)?;
+            into.extend_from_slice(b" ")?;
+            write_bar(bar, into)
+        }
+    }
+}
+
+/// Appends a tablet and a term.
+fn write_in_term(alias: &Alias, term: u64, into: &mut Vec<u8>) -> Result<(), OutOfMemory>
+    ensures { OnOk result (into.new.items ≡ into.old.items ++ (alias_text alias.now ++ codes " in term " ++ decimal term)) }
+{
+    alias.write(into)?;
+    into.extend_from_slice(b" in term ")?;
+    write_number(term, into)
+}
+
+#[tactic(auto, unfolding(crate::specs::Texts::said_text))]
+fn write_promoted(alias: &Alias, term: u64, into: &mut Vec<u8>) -> Result<(), OutOfMemory>
+    ensures { OnOk result (into.new.items ≡ into.old.items ++ said_text (answers.Promoted alias.now term)) }
+{
+    into.extend_from_slice(b"promoted ")?;
+    write_in_term(alias, term, into)
+}
+
+#[tactic(auto, unfolding(crate::specs::Texts::said_text))]
+fn write_committed(
+    gtid: &Gtid,
+    alias: &Alias,
+    term: u64,
+    into: &mut Vec<u8>,
+) -> Result<(), OutOfMemory>
+    ensures { OnOk result (into.new.items ≡ into.old.items ++ said_text (answers.Committed gtid.now alias.now term)) }
+{
+    into.extend_from_slice(b"committed ")?;
+    gtid.write(into)?;
+    into.extend_from_slice(b" on ")?;
+    write_in_term(alias, term, into)
+}
+
+/// Appends what an answer says.
+#[tactic(auto, unfolding(crate::specs::Texts::said_text))]
+fn write_said(answer: &CommandAnswer, into: &mut Vec<u8>) -> Result<(), OutOfMemory>
+    ensures { OnOk result (into.new.items ≡ into.old.items ++ said_text answer.now) }
+{
+    match answer {
+        CommandAnswer::Promoted { alias, term } => write_promoted(alias, *term, into),
+        CommandAnswer::Refused { refusal } => {
+            into.extend_from_slice(b"refused ")?;
+            write_refusal(refusal, into)
+        }
+        CommandAnswer::Committed { gtid, alias, term } => write_committed(gtid, alias, *term, into),
+        CommandAnswer::NoPrimaryRecorded => {
+            into.extend_from_slice(b"no primary recorded")?;
+            Ok(())
+        }
+    }
+}
+
+/// Appends the line of an answer.
+#[tactic(auto, unfolding(crate::specs::Texts::answer_text, crate::specs::Texts::head_text))]
+fn write_answer(
+    command: Option<&Command>,
+    answer: &CommandAnswer,
+    into: &mut Vec<u8>,
+) -> Result<(), OutOfMemory>
+    ensures { OnOk result (into.new.items ≡ into.old.items ++ answer_text (option_copied command.entry) answer.now) }
+{
+    if let Some(command) = command {
+        write_head(command, into)?;
+    }
+    into.extend_from_slice(b": ")?;
+    write_said(answer, into)?;
+    into.push(b'\n')?;
+    Ok(())
+}
+
+/// Adds the command that an event begins, if it does.
+fn push_begun(commands: &mut Vec<Command>, event: &Event) -> Result<(), OutOfMemory>
+    ensures { OnOk result (commands.new.items ≡ commands.old.items ++ begun_by event.now) }
+{
+    match event {
+        Event::Begin { command } => {
+            commands.push(*command)?;
+            Ok(())
+        }
+        Event::Promote { .. } => Ok(()),
+        Event::Write { .. } => Ok(()),
+        Event::End { .. } => Ok(()),
+    }
+}
+
+/// The commands that begin, in order.
+fn commands_of(alloc: Global, steps: &[Step]) -> Result<Vec<Command>, OutOfMemory>
+    ensures { IfOk result (λ commands. commands.items ≡ commands_of steps.now) }
+{
+    let mut commands = Vec::new(alloc);
+    for step in steps {
+        push_begun(&mut commands, &step.event)?;
+    }
+    Ok(commands)
+}
+
+/// The command of a number, counted from 1.
+fn command_at(commands: &[Command], number: u64) -> Option<&Command>
+    ensures { option_copied result ≡ numbered commands.now number }
+{
+    if number == 0 {
+        return None;
+    }
+    commands.get(number as usize - 1)
+}
+
+fn write_event(
+    commands: &[Command],
+    event: &Event,
+    into: &mut Vec<u8>,
+) -> Result<(), OutOfMemory>
+    ensures { OnOk result (into.new.items ≡ into.old.items ++ event_text commands.now event.now) }
+{
+    match event {
+        Event::End { command, answer } => {
+            write_answer(command_at(commands, *command), answer, into)
+        }
+        Event::Begin { .. } => Ok(()),
+        Event::Promote { .. } => Ok(()),
+        Event::Write { .. } => Ok(()),
+    }
+}
+
+fn write_events(
+    alloc: Global,
+    commands: &[Command],
+    steps: &[Step],
+) -> Result<Vec<u8>, OutOfMemory>
+    ensures { IfOk result (λ text. text.items ≡ flat_map (λ s. event_text commands.now s.event) steps.now) }
+{
+    let mut text = Vec::new(alloc);
+    for step in steps {
+        write_event(commands, &step.event, &mut text)?;
+    }
+    Ok(text)
+}
+
+/// The text of a history: the answer of each command that ended, a line each.
+pub fn text_of(alloc: Global, steps: &[Step]) -> Result<Vec<u8>, OutOfMemory>
+    ensures { IfOk result (λ text. text.items ≡ text_of steps.now) }
+{
+    let commands = commands_of(alloc, steps)?;
+    write_events(alloc, &commands, steps)
+}
+
+fn is_refused(answer: &CommandAnswer) -> bool
+    ensures { result ≡ is_refused answer.now }
+{
+    match answer {
+        CommandAnswer::Promoted { .. } => false,
+        CommandAnswer::Refused { .. } => true,
+        CommandAnswer::Committed { .. } => false,
+        CommandAnswer::NoPrimaryRecorded => true,
+    }
+}
+
+fn refuses(event: &Event) -> bool
+    ensures { result ≡ refuses event.now }
+{
+    match event {
+        Event::End { answer, .. } => is_refused(answer),
+        Event::Begin { .. } => false,
+        Event::Promote { .. } => false,
+        Event::Write { .. } => false,
+    }
+}
+
+/// Whether a command that ended was refused.
+pub fn has_refusal(steps: &[Step]) -> bool
+    ensures { result ≡ has_refusal steps.now }
+{
+    steps.iter().any(|step| refuses(&step.event))
+}
+
+/// What is said of words without a reading.
+#[tactic(auto, unfolding(crate::specs::Texts::usage_text))]
+pub fn usage_text(alloc: Global, word: &[u8]) -> Result<Vec<u8>, OutOfMemory>
+    ensures { IfOk result (λ text. text.items ≡ usage_text word.now) }
+{
+    let mut text = Vec::new(alloc);
+    text.extend_from_slice(b"usage fault: ")?;
+    text.extend_from_slice(word)?;
+    text.push(b'\n')?;
+    Ok(text)
+}
+
+/// What is said of a script without a reading. Until the whole language is read there is one code.
+#[tactic(auto, unfolding(crate::specs::Texts::fault_text))]
+pub fn fault_text(alloc: Global, line: u64) -> Result<Vec<u8>, OutOfMemory>
+    ensures { IfOk result (λ text. text.items ≡ fault_text line) }
+{
+    let mut text = Vec::new(alloc);
+    text.extend_from_slice(b"script fault: line ")?;
+    write_number(line, &mut text)?;
+    text.extend_from_slice(b" code 13")?;
+    text.push(b'\n')?;
+    Ok(text)
+}
+
+/// What is said of a source that failed.
+#[tactic(auto, unfolding(crate::specs::Texts::read_fault_text))]
+pub fn read_fault_text(alloc: Global) -> Result<Vec<u8>, OutOfMemory>
+    ensures { IfOk result (λ text. text.items ≡ read_fault_text) }
+{
+    Ok(Vec::from_slice(alloc, b"read fault\n")?)
+}

@@ -1,0 +1,186 @@
+ghost use Rattle.std.specs.Prelude.{◌≡◌, ◌≢◌, ◌≤◌, ◌<◌, [], List, ℕ, map, IsOkAnd, IsSome, MatchResult};
+ghost use Rattle.std.specs.Io.KnownBytes.{Appends};
+ghost use Rattle.shard_base.specs.Faults.{Rose, Calm};
+ghost use Rattle.shard_names.specs.declared.tablet.Tablet.{Tablet as ATablet};
+ghost use Rattle.shard_top.specs.Script.{Fits, reading};
+ghost use Rattle.shard_top.specs.Streams.{AppendsFront, WasRead};
+ghost use Rattle.shard_top.specs.Texts.{read_fault_text, text_of, status_of};
+ghost use Rattle.shard_top.specs.Words.{usage_fault};
+ghost use Rattle.shard_top.specs.Program.{answer_to, answer_to_reading, answer_to_script, Answers};
+ghost use Rattle.shard_core.specs.Kept.{IsSafe};
+
+use crate::playing::play;
+use crate::script::{Script, ScriptFault, read_text};
+use crate::sink::{Sink, put_all};
+use crate::source::{ReadFault, Source, read_all};
+use crate::texts::{fault_text, has_refusal, read_fault_text, text_of, usage_text};
+use crate::words::usage_fault;
+use shard_base::{Items, OutOfMemory};
+use shard_core::{History, Shard, Step};
+use std::alloc::Global;
+
+/// How the program ended, and the history that it kept.
+#[derive(Drop)]
+pub struct Outcome {
+    /// The exit status: 0 where all went well; 1 where a command that ended was refused; 2 for words, 3 for a script without a
+    /// reading; 4 where the source failed, 5 where the sink failed; 6 for want of memory.
+    pub status: u8,
+    pub history: History,
+}
+
+/// The status of a history that was played to its end.
+fn status_of(steps: &[Step]) -> u8
+    ensures status { result ≡ status_of steps.now }
+    ensures small { result < 2 }
+{
+    if has_refusal(steps) { 1 } else { 0 }
+}
+
+fn ended(alloc: Global, status: u8) -> Outcome
+    ensures status { result.status ≡ status }
+    ensures empty { result.history.steps ≡ [] }
+{
+    Outcome {
+        status,
+        history: History {
+            steps: Items::new(alloc),
+        },
+    }
+}
+
+/// Puts a text, if there was memory for it, and answers the status: 5 where the sink failed, 6 for want of memory.
+fn say<O: Sink>(sink: &mut O, text: Result<Vec<u8>, OutOfMemory>, status: u8) -> u8
+    requires { status < 5 }
+    ensures said { Calm (O.faults sink.old) (O.faults sink.new) → result ≢ 6 → IsOkAnd text (λ t. (result ≡ status) × Appends (O.taken sink.old) (O.taken sink.new) t.items) }
+    ensures whole { result ≡ status → IsOkAnd text (λ t. Appends (O.taken sink.old) (O.taken sink.new) t.items) }
+    ensures part { MatchResult text (λ t. AppendsFront (O.taken sink.old) (O.taken sink.new) t.items) (λ _. O.taken sink.new ≡ O.taken sink.old) }
+    ensures cause { result ≡ 5 → Rose (O.faults sink.old) (O.faults sink.new) }
+    ensures failed { O.faults sink.old < O.faults sink.new → result ≡ 5 }
+    ensures other { result ≢ status → 5 ≤ result }
+    ensures least { status ≤ result }
+    ensures most { result ≤ 6 }
+{
+    match text {
+        Err(_) => 6,
+        Ok(text) => match put_all(sink, &text) {
+            Ok(()) => status,
+            Err(_) => 5,
+        },
+    }
+}
+
+/// Writes the text of a history.
+fn tell<O: Sink>(alloc: Global, history: History, output: &mut O) -> Outcome
+    ensures kept { result.history.steps ≡ history.steps }
+    ensures said { Calm (O.faults output.old) (O.faults output.new) → result.status ≢ 6
+        → (result.status ≡ status_of history.steps) × Appends (O.taken output.old) (O.taken output.new) (text_of history.steps) }
+    ensures part { AppendsFront (O.taken output.old) (O.taken output.new) (text_of history.steps) }
+    ensures cause { result.status ≡ 5 → Rose (O.faults output.old) (O.faults output.new) }
+    ensures failed { O.faults output.old < O.faults output.new → result.status ≡ 5 }
+    ensures not_read { result.status ≢ 4 }
+{
+    let steps = history.steps.as_slice();
+    let done = status_of(steps);
+    let status = say(output, text_of(alloc, steps), done);
+    Outcome { status, history }
+}
+
+/// Plays a script, and writes the text of its history.
+fn run_script<O: Sink>(alloc: Global, script: &Script, output: &mut O) -> Outcome
+    requires { Fits script.now }
+    ensures answers { Answers (answer_to_script script.now) (Calm (O.faults output.old) (O.faults output.new)) result.status result.history.steps (O.taken output.old) (O.taken output.new) }
+    ensures cause { result.status ≡ 5 → Rose (O.faults output.old) (O.faults output.new) }
+    ensures failed { O.faults output.old < O.faults output.new → result.status ≡ 5 }
+    ensures not_read { result.status ≢ 4 }
+{
+    let mut shard = match Shard::new(alloc, script.tablets.as_slice()) {
+        Ok(shard) => shard,
+        Err(_) => return ended(alloc, 6),
+    };
+    match play(&mut shard, script) {
+        Ok(()) => tell(alloc, shard.into_history(), output),
+        Err(OutOfMemory) => Outcome {
+            status: 6,
+            history: shard.into_history(),
+        },
+    }
+}
+
+fn run_text<O: Sink>(alloc: Global, text: &[u8], output: &mut O) -> Outcome
+    ensures answers { Answers (answer_to_reading (reading text.now)) (Calm (O.faults output.old) (O.faults output.new)) result.status result.history.steps (O.taken output.old) (O.taken output.new) }
+    ensures cause { result.status ≡ 5 → Rose (O.faults output.old) (O.faults output.new) }
+    ensures failed { O.faults output.old < O.faults output.new → result.status ≡ 5 }
+    ensures not_read { result.status ≢ 4 }
+{
+    match read_text(alloc, text) {
+        Ok(script) => run_script(alloc, &script, output),
+        Err(ScriptFault::OutOfMemory) => ended(alloc, 6),
+        Err(ScriptFault::Line(line)) => {
+            let status = say(output, fault_text(alloc, line), 3);
+            ended(alloc, status)
+        }
+    }
+}
+
+/// What the program does with its words, the script on its input, and its output. It waits for nobody, and always returns.
+pub fn step_words<I: Source, O: Sink>(
+    alloc: Global,
+    words: &Vec<Vec<u8>>,
+    input: &mut I,
+    output: &mut O,
+) -> Outcome
+    // Where the source did not fail, the answer is that of the words and the text that it gave.
+    ensures answered { Calm (I.faults input.old) (I.faults input.new) → (text : List ℕ) × WasRead (I.left input.old) text
+        × Answers (answer_to (map (λ w. w.items) words.now.items) text) (Calm (O.faults output.old) (O.faults output.new)) result.status result.history.steps (O.taken output.old) (O.taken output.new) }
+    ensures unread { IsSome (usage_fault (map (λ w. w.items) words.now.items)) → I.left input.new ≡ I.left input.old }
+
+    // A stream that failed is told by the status, which a stream that did not fail never gives.
+    ensures source_failed { I.faults input.old < I.faults input.new → (4 ≤ result.status) × (result.status ≤ 6) }
+    ensures sink_failed { O.faults output.old < O.faults output.new → result.status ≡ 5 }
+    ensures read { result.status ≡ 4 → Rose (I.faults input.old) (I.faults input.new) }
+    ensures read_said { result.status ≡ 4 → Appends (O.taken output.old) (O.taken output.new) read_fault_text }
+    ensures read_kept { result.status ≡ 4 → result.history.steps ≡ [] }
+    ensures write { result.status ≡ 5 → Rose (O.faults output.old) (O.faults output.new) }
+
+    // Whatever the streams did, the history is a run of the machine.
+    ensures safe { (tablets : List ATablet) × IsSafe tablets result.history.steps }
+{
+    if let Some(word) = usage_fault(words) {
+        let status = say(output, usage_text(alloc, word), 2);
+        return ended(alloc, status);
+    }
+    match read_all(alloc, input) {
+        Ok(text) => run_text(alloc, &text, output),
+        Err(ReadFault::OutOfMemory) => ended(alloc, 6),
+        Err(ReadFault::Failed) => {
+            let status = say(output, read_fault_text(alloc), 4);
+            ended(alloc, status)
+        }
+    }
+}
+
+/// The program: what it does with its words, the script on its input, and its output.
+pub fn vtshard_words<I: Source, O: Sink>(
+    alloc: Global,
+    words: &Vec<Vec<u8>>,
+    input: &mut I,
+    output: &mut O,
+) -> Outcome
+    // Where the source did not fail, the answer is that of the words and the text that it gave.
+    ensures answered { Calm (I.faults input.old) (I.faults input.new) → (text : List ℕ) × WasRead (I.left input.old) text
+        × Answers (answer_to (map (λ w. w.items) words.now.items) text) (Calm (O.faults output.old) (O.faults output.new)) result.status result.history.steps (O.taken output.old) (O.taken output.new) }
+    ensures unread { IsSome (usage_fault (map (λ w. w.items) words.now.items)) → I.left input.new ≡ I.left input.old }
+
+    // A stream that failed is told by the status, which a stream that did not fail never gives.
+    ensures source_failed { I.faults input.old < I.faults input.new → (4 ≤ result.status) × (result.status ≤ 6) }
+    ensures sink_failed { O.faults output.old < O.faults output.new → result.status ≡ 5 }
+    ensures read { result.status ≡ 4 → Rose (I.faults input.old) (I.faults input.new) }
+    ensures read_said { result.status ≡ 4 → Appends (O.taken output.old) (O.taken output.new) read_fault_text }
+    ensures read_kept { result.status ≡ 4 → result.history.steps ≡ [] }
+    ensures write { result.status ≡ 5 → Rose (O.faults output.old) (O.faults output.new) }
+
+    // Whatever the streams did, the history is a run of the machine.
+    ensures safe { (tablets : List ATablet) × IsSafe tablets result.history.steps }
+{
+    step_words(alloc, words, input, output)
+}

@@ -1,0 +1,78 @@
+//! Plays a script of one replicated MySQL shard, and prints the answers.
+#![tactic(auto)]
+
+use shard_top::{Failed, Sink, Source, vtshard_words};
+use std::env;
+use std::io::{self, Read, Write};
+use std::process::ExitCode;
+
+/// Standard input, and how often it has failed.
+#[derive(Drop)]
+struct Input<R: Read + Drop> {
+    inner: R,
+    faults: u64,
+}
+
+impl<R: Read + Drop> Source for Input<R> {
+    ghost left = { λ s. R.remaining s.inner };
+
+    ghost faults = { λ s. s.faults };
+
+    fn take(&mut self, room: &mut [u8]) -> Result<usize, Failed> {
+        match self.inner.read(room) {
+            Ok(count) => Ok(count),
+            Err(_) => {
+                self.faults = self.faults.saturating_add(1);
+                Err(Failed)
+            }
+        }
+    }
+}
+
+/// Standard output, and how often it has failed.
+#[derive(Drop)]
+struct Output<W: Write + Drop> {
+    inner: W,
+    faults: u64,
+}
+
+impl<W: Write + Drop> Sink for Output<W> {
+    ghost taken = { λ s. W.contents s.inner };
+
+    ghost faults = { λ s. s.faults };
+
+    fn put(&mut self, piece: &[u8]) -> Result<usize, Failed> {
+        match self.inner.write(piece) {
+            Ok(count) if count > 0 || piece.is_empty() => Ok(count),
+            _ => {
+                self.faults = self.faults.saturating_add(1);
+                Err(Failed)
+            }
+        }
+    }
+}
+
+fn words_of(rt: &HostRuntime) -> io::Result<Vec<Vec<u8>>> {
+    let mut words = Vec::new(rt.alloc());
+    for word in env::args(rt)?.skip(1) {
+        words.push(word.into_bytes())?;
+    }
+    Ok(words)
+}
+
+fn main(rt: HostRuntime) -> ExitCode {
+    let words = match words_of(&rt) {
+        Ok(words) => words,
+        Err(_) => return ExitCode::from(6),
+    };
+    let mut input = Input {
+        inner: rt.stdin(),
+        faults: 0,
+    };
+    let mut output = Output {
+        inner: rt.stdout(),
+        faults: 0,
+    };
+    let outcome = vtshard_words(rt.alloc(), &words, &mut input, &mut output);
+    ExitCode::from(outcome.status)
+}
