@@ -1,8 +1,10 @@
-//! Transactions, and the entries of a tablet's log.
+//! Transactions, the entries of a tablet's log, and sets of transactions.
 #![tactic(auto)]
 
 mod entry;
 mod gtid;
+mod gtid_set;
 
 pub use entry::{Entry, Kind};
 pub use gtid::Gtid;
+pub use gtid_set::{GtidSet, covers, equal, minus, union};

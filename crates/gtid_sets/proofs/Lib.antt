@@ -1,0 +1,5 @@
+pub mod GtidLemmas
+pub mod RisingLemmas
+pub mod SearchLemmas
+pub mod WalkLemmas
+pub mod PositionLemmas

@@ -1,0 +1,101 @@
+-- What the words on positions say of members.
+use Rattle.std.proofs.Common.{◌≡◌, Bool, true, false, not, ◌&&◌, ◌||◌, List, [], ◌∷◌, ◌++◌, refl, ap, sym, subst, ◌∙◌}
+use Rattle.std.specs.Bool.{Decides}
+use Rattle.std.specs.List.{list_all, filter}
+use Rattle.std.proofs.lemmas.Slice.Eq.{slice_eq-Decides}
+use Rattle.gtid_sets.specs.declared.gtid.Gtid.{Gtid}
+use Rattle.gtid_sets.specs.Gtid.{gtid_eq}
+use Rattle.gtid_sets.specs.Position.{Position, nothing, with_gtid, of_gtids, has, union, minus, covers}
+use Rattle.gtid_sets.specs.StoredPosition.{same_position, position_eq}
+use Rattle.gtid_sets.proofs.GtidLemmas.{gtid_eq_itself, gtid_eq_is, gtid_eq-Decides}
+use Rattle.gtid_sets.proofs.RisingLemmas.{member, same_list, member_put, member_of_gtids, member_append, member_filter}
+
+pub position_eq-Decides : (p q : Position) → Decides (position_eq p q) (p ≡ q)
+position_eq-Decides p q =
+    let lists : Decides (position_eq p q) (p.gtids ≡ q.gtids) = slice_eq-Decides gtid_eq-Decides p.gtids q.gtids (position_eq p q) refl in
+    ((λ h. same_position p q (lists.0 h)), (λ e. lists.1 (ap (λ r. r.gtids) e)))
+
+-- ---- members
+pub has-with_gtid : (p : Position) (g q : Gtid) → has (with_gtid p g) q ≡ (gtid_eq q g || has p q)
+has-with_gtid p g q = member_put g q p.gtids
+
+pub has-of_gtids : (gs : List Gtid) (q : Gtid) → has (of_gtids gs) q ≡ member gs q
+has-of_gtids gs q = member_of_gtids gs q
+
+pub has-union : (p q : Position) (g : Gtid) → has (union p q) g ≡ (has p g || has q g)
+has-union p q g = member_of_gtids (p.gtids ++ q.gtids) g ∙ member_append g p.gtids q.gtids
+
+pub has-minus : (p q : Position) (g : Gtid) → has (minus p q) g ≡ (has p g && not (has q g))
+has-minus p q g = member_of_gtids (filter (λ x. not (has q x)) p.gtids) g ∙ member_filter (λ x. not (has q x)) g p.gtids
+
+-- positions with the same members are one
+pub same_members : (p q : Position) → ((g : Gtid) → has p g ≡ has q g) → p ≡ q
+same_members p q same = same_position p q (same_list p.gtids q.gtids p.in_order q.in_order same)
+
+-- ---- covers
+both_left : (a b : Bool) → (a && b) ≡ true → a ≡ true
+both_left true b h = refl
+both_left false b h = h
+
+both_right : (a b : Bool) → (a && b) ≡ true → b ≡ true
+both_right true b h = h
+both_right false b h = absurd (cc)
+
+or_left : (a b : Bool) → a ≡ true → (a || b) ≡ true
+or_left a b e = rw e refl
+
+or_right : (a b : Bool) → b ≡ true → (a || b) ≡ true
+or_right true b e = refl
+or_right false b e = e
+
+all_member : (p : Gtid → Bool) (gs : List Gtid) (g : Gtid) → list_all p gs ≡ true → member gs g ≡ true → p g ≡ true
+all_member p [] g all one = absurd (cc)
+all_member p (x ∷ xs) g all one =
+    elim (gtid_eq g x) as (λ b. gtid_eq g x ≡ b → (b || member xs g) ≡ true → p g ≡ true) [
+      | true ↦ λ e h. subst (λ (z : Gtid). p z ≡ true) (sym (gtid_eq_is g x e)) (both_left (p x) (list_all p xs) all)
+      | false ↦ λ e h. all_member p xs g (both_right (p x) (list_all p xs) all) h
+    ] refl one
+
+each_member : (p : Gtid → Bool) (gs : List Gtid) → ((g : Gtid) → member gs g ≡ true → p g ≡ true) → list_all p gs ≡ true
+each_member p [] each = refl
+each_member p (x ∷ xs) each =
+    let first : p x ≡ true = each x (or_left (gtid_eq x x) (member xs x) (gtid_eq_itself x)) in
+    let rest : list_all p xs ≡ true = each_member p xs (λ g m. each g (or_right (gtid_eq g x) (member xs g) m)) in
+    rw (first, rest) refl
+
+-- what is in a covered set is in the one that covers it
+pub covers-has : (p q : Position) (g : Gtid) → covers p q ≡ true → has q g ≡ true → has p g ≡ true
+covers-has p q g all one = all_member (has p) q.gtids g all one
+
+pub covers-from_has : (p q : Position) → ((g : Gtid) → has q g ≡ true → has p g ≡ true) → covers p q ≡ true
+covers-from_has p q each = each_member (has p) q.gtids each
+
+pub covers-itself : (p : Position) → covers p p ≡ true
+covers-itself p = covers-from_has p p (λ g h. h)
+
+pub covers-further : (p q r : Position) → covers p q ≡ true → covers q r ≡ true → covers p r ≡ true
+covers-further p q r h k = covers-from_has p r (λ g m. covers-has p q g h (covers-has q r g k m))
+
+pub covers-both : (p q : Position) → covers p q ≡ true → covers q p ≡ true → p ≡ q
+covers-both p q h k = same_members p q (λ g. alike (has p g) (has q g) (covers-has q p g k) (covers-has p q g h))
+  where
+    alike : (a b : Bool) → (a ≡ true → b ≡ true) → (b ≡ true → a ≡ true) → a ≡ b
+    alike true b f g = sym (f refl)
+    alike false true f g = g refl
+    alike false false f g = refl
+
+-- nothing is left over exactly where all is covered
+pub minus-covered : (p q : Position) → covers q p ≡ true → minus p q ≡ nothing
+minus-covered p q h = same_members (minus p q) nothing (λ g. has-minus p q g ∙ none (has p g) (has q g) (covers-has q p g h))
+  where
+    none : (a b : Bool) → (a ≡ true → b ≡ true) → (a && not b) ≡ false
+    none true b f = rw (f refl) refl
+    none false b f = refl
+
+pub covered-from_minus : (p q : Position) → minus p q ≡ nothing → covers q p ≡ true
+covered-from_minus p q e = covers-from_has q p (λ g m. there (has p g) (has q g) m (sym (has-minus p q g) ∙ ap (λ r. has r g) e))
+  where
+    there : (a b : Bool) → a ≡ true → (a && not b) ≡ false → b ≡ true
+    there true true h k = refl
+    there true false h k = absurd (cc)
+    there false b h k = absurd (cc)
