@@ -1,11 +1,13 @@
 -- What the words on positions say of members.
-use Rattle.std.proofs.Common.{◌≡◌, Bool, true, false, not, ◌&&◌, ◌||◌, List, [], ◌∷◌, ◌++◌, refl, ap, sym, subst, ◌∙◌}
+use Rattle.std.proofs.Common.{◌≡◌, ◌≤◌, ◌⊎◌, inl, inr, ℕ, Bool, true, false, not, cond, ◌&&◌, ◌||◌, List, [], ◌∷◌, ◌++◌, map, max, refl, ap, sym, subst, ◌∙◌, arith}
 use Rattle.std.specs.Bool.{Decides}
 use Rattle.std.specs.List.{list_all, filter}
-use Rattle.std.proofs.lemmas.Slice.Eq.{slice_eq-Decides}
+use Rattle.std.specs.Str.{bytes_eq}
+use Rattle.std.proofs.lemmas.Bool.{cases_lt}
+use Rattle.std.proofs.lemmas.Slice.Eq.{slice_eq-Decides, bytes_eq-Decides}
 use Rattle.gtid_sets.specs.declared.gtid.Gtid.{Gtid}
 use Rattle.gtid_sets.specs.Gtid.{gtid_eq}
-use Rattle.gtid_sets.specs.Position.{Position, nothing, with_gtid, of_gtids, has, union, minus, covers}
+use Rattle.gtid_sets.specs.Position.{Position, nothing, with_gtid, of_gtids, has, union, minus, covers, greatest, greatest_of}
 use Rattle.gtid_sets.specs.StoredPosition.{same_position, position_eq}
 use Rattle.gtid_sets.proofs.GtidLemmas.{gtid_eq_itself, gtid_eq_is, gtid_eq-Decides}
 use Rattle.gtid_sets.proofs.RisingLemmas.{member, same_list, member_put, member_of_gtids, member_append, member_filter}
@@ -99,3 +101,64 @@ covered-from_minus p q e = covers-from_has q p (λ g m. there (has p g) (has q g
     there true true h k = refl
     there true false h k = absurd (cc)
     there false b h k = absurd (cc)
+
+-- ---- the greatest number of a server
+abbrev all_numbers : List Gtid → List ℕ
+all_numbers gs = map (λ (g : Gtid). g.number) gs
+
+abbrev of_server : List ℕ → List Gtid → List Gtid
+of_server server gs = filter (λ g. bytes_eq g.server server) gs
+
+no_less : (b : Bool) (x : Gtid) (gs : List Gtid) (n : ℕ) → n ≤ greatest (all_numbers gs) → n ≤ greatest (all_numbers (cond b (x ∷ gs) gs))
+no_less true x gs n low = omega arith
+no_less false x gs n low = low
+
+first_low : (b : Bool) (x : Gtid) (gs : List Gtid) → b ≡ true → x.number ≤ greatest (all_numbers (cond b (x ∷ gs) gs))
+first_low true x gs e = omega arith
+first_low false x gs e = absurd (cc)
+
+none_greater : (server : List ℕ) (gs : List Gtid) (g : Gtid) → bytes_eq g.server server ≡ true → member gs g ≡ true → g.number ≤ greatest (all_numbers (of_server server gs))
+none_greater server [] g its h = absurd (cc)
+none_greater server (x ∷ xs) g its h =
+    elim (gtid_eq g x) as (λ b. gtid_eq g x ≡ b → (b || member xs g) ≡ true → g.number ≤ greatest (all_numbers (of_server server (x ∷ xs)))) [
+      | true ↦ λ e _.
+          let same : g ≡ x = gtid_eq_is g x e in
+          subst (λ (z : Gtid). g.number ≤ greatest (all_numbers (of_server server (z ∷ xs)))) same (first_low (bytes_eq g.server server) g (of_server server xs) its)
+      | false ↦ λ e m. no_less (bytes_eq x.server server) x (of_server server xs) g.number (none_greater server xs g its m)
+    ] refl h
+
+pub none_is_greater : (p : Position) (g : Gtid) → has p g ≡ true → g.number ≤ greatest_of g.server p
+none_is_greater p g h = none_greater g.server p.gtids g ((bytes_eq-Decides g.server g.server).1 refl) h
+
+max_cases : (m n : ℕ) → (max m n ≡ m) ⊎ (max m n ≡ n)
+max_cases m n = elim (cases_lt m n) [ inl l ↦ inr (omega arith) | inr l ↦ inl (omega arith) ]
+
+-- whether a list has a number of a server
+abbrev There : List ℕ → List Gtid → ℕ → Type 0
+There server gs n = member gs (record { server = server; number = n }) ≡ true
+
+there_later : (server : List ℕ) (x : Gtid) (xs : List Gtid) (m n : ℕ) → n ≡ m → (m ≡ 0) ⊎ There server xs m → (n ≡ 0) ⊎ There server (x ∷ xs) n
+there_later server x xs m n e (inl z) = inl (e ∙ z)
+there_later server x xs m n e (inr h) =
+    inr (subst (λ (k : ℕ). There server (x ∷ xs) k) (sym e) (or_right (gtid_eq (record { server = server; number = m }) x) (member xs (record { server = server; number = m })) h))
+
+there_first : (server : List ℕ) (x : Gtid) (xs : List Gtid) (n : ℕ) → bytes_eq x.server server ≡ true → n ≡ x.number → There server (x ∷ xs) n
+there_first server x xs n e k =
+    let servers : x.server ≡ server = (bytes_eq-Decides x.server server).0 e in
+    let same : x ≡ record { server = server; number = n } = λ i. record { server = servers i; number = (sym k) i } in
+    or_left (gtid_eq (record { server = server; number = n }) x) (member xs (record { server = server; number = n }))
+    (subst (λ (z : Gtid). gtid_eq (record { server = server; number = n }) z ≡ true) (sym same) (gtid_eq_itself (record { server = server; number = n })))
+
+greatest_there : (server : List ℕ) (gs : List Gtid) → (greatest (all_numbers (of_server server gs)) ≡ 0) ⊎ There server gs (greatest (all_numbers (of_server server gs)))
+greatest_there server [] = inl refl
+greatest_there server (x ∷ xs) =
+    elim (bytes_eq x.server server) as (λ b. bytes_eq x.server server ≡ b → (greatest (all_numbers (cond b (x ∷ of_server server xs) (of_server server xs))) ≡ 0) ⊎ There server (x ∷ xs) (greatest (all_numbers (cond b (x ∷ of_server server xs) (of_server server xs))))) [
+      | true ↦ λ e. elim (max_cases x.number (greatest (all_numbers (of_server server xs)))) [
+        | inl first ↦ inr (there_first server x xs _ e first)
+        | inr rest ↦ there_later server x xs (greatest (all_numbers (of_server server xs))) _ rest (greatest_there server xs)
+      ]
+      | false ↦ λ e. there_later server x xs (greatest (all_numbers (of_server server xs))) _ refl (greatest_there server xs)
+    ] refl
+
+pub greatest_is_there : (server : List ℕ) (p : Position) → (greatest_of server p ≡ 0) ⊎ (has p (record { server = server; number = greatest_of server p }) ≡ true)
+greatest_is_there server p = greatest_there server p.gtids

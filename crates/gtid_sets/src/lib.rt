@@ -4,6 +4,7 @@
 mod entry;
 mod gtid;
 mod gtid_set;
+pub mod laws;
 
 pub use entry::{Entry, Kind};
 pub use gtid::Gtid;
