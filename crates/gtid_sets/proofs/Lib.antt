@@ -3,3 +3,4 @@ pub mod RisingLemmas
 pub mod SearchLemmas
 pub mod WalkLemmas
 pub mod PositionLemmas
+pub mod TextLemmas

@@ -73,6 +73,13 @@ impl GtidSet {
         Ok(self.clone()?)
     }
 
+    /// The transactions in order.
+    pub(crate) fn as_slice(&self) -> &[Gtid]
+        ensures { result.now ≡ self.now.gtids }
+    {
+        self.gtids.as_slice()
+    }
+
     /// Whether a transaction is in the set.
     pub fn contains(&self, gtid: Gtid) -> bool
         ensures { result ≡ has self.now gtid }

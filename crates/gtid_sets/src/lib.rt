@@ -5,7 +5,9 @@ mod entry;
 mod gtid;
 mod gtid_set;
 pub mod laws;
+mod set_text;
 
 pub use entry::{Entry, Kind};
 pub use gtid::Gtid;
 pub use gtid_set::{GtidSet, covers, equal, minus, union};
+pub use set_text::{write_position, write_set};
