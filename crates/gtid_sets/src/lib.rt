@@ -6,6 +6,8 @@ mod gtid;
 mod gtid_set;
 pub mod laws;
 mod set_text;
+#[cfg(test)]
+mod tests;
 
 pub use entry::{Entry, Kind};
 pub use gtid::Gtid;
