@@ -1,3 +1,4 @@
+pub mod BoolLemmas
 pub mod GtidLemmas
 pub mod RisingLemmas
 pub mod SearchLemmas

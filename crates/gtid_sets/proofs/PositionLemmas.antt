@@ -1,15 +1,18 @@
 -- What the words on positions say of members.
-use Rattle.std.proofs.Common.{◌≡◌, ◌≤◌, ◌⊎◌, inl, inr, ℕ, Bool, true, false, not, cond, ◌&&◌, ◌||◌, List, [], ◌∷◌, ◌++◌, map, max, refl, ap, sym, subst, ◌∙◌, arith}
+use Rattle.std.proofs.Common.{if◌then◌else◌, ◌+◌, ◌≡◌, ◌≤◌, ◌⊎◌, inl, inr, ℕ, Bool, true, false, not, cond, ◌&&◌, ◌||◌, List, [], ◌∷◌, ◌++◌, length, map, max, refl, ap, sym, subst, ◌∙◌, arith}
 use Rattle.std.specs.Bool.{Decides}
 use Rattle.std.specs.List.{list_all, filter}
 use Rattle.std.specs.Str.{bytes_eq}
 use Rattle.std.proofs.lemmas.Bool.{cases_lt}
 use Rattle.std.proofs.lemmas.Slice.Eq.{slice_eq-Decides, bytes_eq-Decides}
+use Rattle.shard_names.proofs.TabletLemmas.{both_left, both_right}
 use Rattle.gtid_sets.specs.declared.gtid.Gtid.{Gtid}
 use Rattle.gtid_sets.specs.Gtid.{gtid_eq}
-use Rattle.gtid_sets.specs.Position.{Position, nothing, with_gtid, of_gtids, has, union, minus, covers, greatest, greatest_of}
+use Rattle.gtid_sets.specs.Position.{Position, nothing, with_gtid, of_gtids, has, union, minus, covers, count, greatest, greatest_of}
 use Rattle.gtid_sets.specs.StoredPosition.{same_position, position_eq}
+use Rattle.gtid_sets.proofs.BoolLemmas.{or_left, or_right}
 use Rattle.gtid_sets.proofs.GtidLemmas.{gtid_eq_itself, gtid_eq_is, gtid_eq-Decides}
+use Rattle.gtid_sets.proofs.SearchLemmas.{put_found, length_put}
 use Rattle.gtid_sets.proofs.RisingLemmas.{member, same_list, member_put, member_of_gtids, member_append, member_filter}
 
 pub position_eq-Decides : (p q : Position) → Decides (position_eq p q) (p ≡ q)
@@ -34,22 +37,15 @@ has-minus p q g = member_of_gtids (filter (λ x. not (has q x)) p.gtids) g ∙ m
 pub same_members : (p q : Position) → ((g : Gtid) → has p g ≡ has q g) → p ≡ q
 same_members p q same = same_position p q (same_list p.gtids q.gtids p.in_order q.in_order same)
 
+-- ---- how many
+pub count-with_gtid : (p : Position) (g : Gtid) → count (with_gtid p g) ≡ (if has p g then count p else count p + 1)
+count-with_gtid p g =
+    elim (has p g) as (λ b. has p g ≡ b → count (with_gtid p g) ≡ (if b then count p else count p + 1)) [
+      | true ↦ λ e. ap length (put_found p.gtids g p.in_order e)
+      | false ↦ λ e. length_put p.gtids g e
+    ] refl
+
 -- ---- covers
-both_left : (a b : Bool) → (a && b) ≡ true → a ≡ true
-both_left true b h = refl
-both_left false b h = h
-
-both_right : (a b : Bool) → (a && b) ≡ true → b ≡ true
-both_right true b h = h
-both_right false b h = absurd (cc)
-
-or_left : (a b : Bool) → a ≡ true → (a || b) ≡ true
-or_left a b e = rw e refl
-
-or_right : (a b : Bool) → b ≡ true → (a || b) ≡ true
-or_right true b e = refl
-or_right false b e = e
-
 all_member : (p : Gtid → Bool) (gs : List Gtid) (g : Gtid) → list_all p gs ≡ true → member gs g ≡ true → p g ≡ true
 all_member p [] g all one = absurd (cc)
 all_member p (x ∷ xs) g all one =

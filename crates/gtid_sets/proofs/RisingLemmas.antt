@@ -7,8 +7,9 @@ use Rattle.std.specs.declared.cmp.Ordering.TheVariants.{Less, Equal, Greater}
 use Rattle.gtid_sets.specs.declared.gtid.Gtid.{Gtid}
 use Rattle.gtid_sets.specs.Gtid.{gtid_cmp, gtid_eq}
 use Rattle.gtid_sets.specs.GtidOrder.{gtid_total}
-use Rattle.gtid_sets.specs.Rising.{rises, put}
+use Rattle.gtid_sets.specs.Rising.{rises, put, T_both, T_left, T_right, is_below, is_above}
 use Rattle.gtid_sets.specs.Position.{of_gtids}
+use Rattle.gtid_sets.proofs.BoolLemmas.{or_left, or_right}
 use Rattle.gtid_sets.proofs.GtidLemmas.{same_gtid, gtid_eq_itself, gtid_eq_is, below_differs}
 
 -- whether a list has a transaction
@@ -24,28 +25,10 @@ pub under_further : (x y : Gtid) (zs : List Gtid) → gtid_cmp x y ≡ Less → 
 under_further x y [] low h = tt
 under_further x y (z ∷ zs) low h = (gtid_total.trans x y z low h.0, under_further x y zs low h.1)
 
-T_both : (a b : Bool) → T a → T b → T (a && b)
-T_both true b p q = q
-T_both false b p q = p
-
-T_left : (a b : Bool) → T (a && b) → T a
-T_left true b p = tt
-T_left false b p = p
-
-T_right : (a b : Bool) → T (a && b) → T b
-T_right true b p = p
-T_right false b p = absurd p
-
-low_test : (o : Ordering) → o ≡ Less → T (is_lt o)
-low_test o e = subst (λ r. T (is_lt r)) (sym e) tt
-
 is_low : (o : Ordering) → T (is_lt o) → o ≡ Less
 is_low Less h = refl
 is_low Equal h = absurd h
 is_low Greater h = absurd h
-
-pub flipped : (x y : Gtid) → gtid_cmp x y ≡ Greater → gtid_cmp y x ≡ Less
-flipped x y e = gtid_total.antisymm y x ∙ ap ordering_reverse e
 
 -- ---- the first of a list in order, and the others
 pub rises_tail : (x : Gtid) (xs : List Gtid) → T (rises (x ∷ xs)) → T (rises xs)
@@ -60,16 +43,9 @@ rises_head x (y ∷ ys) h =
 
 pub rises_cons : (x : Gtid) (xs : List Gtid) → Under x xs → T (rises xs) → T (rises (x ∷ xs))
 rises_cons x [] low h = tt
-rises_cons x (y ∷ ys) low h = T_both (is_lt (gtid_cmp x y)) (rises (y ∷ ys)) (low_test (gtid_cmp x y) low.0) h
+rises_cons x (y ∷ ys) low h = T_both (is_lt (gtid_cmp x y)) (rises (y ∷ ys)) (is_below (gtid_cmp x y) low.0) h
 
 -- ---- members
-or_left : (a b : Bool) → a ≡ true → (a || b) ≡ true
-or_left a b e = rw e refl
-
-or_right : (a b : Bool) → b ≡ true → (a || b) ≡ true
-or_right true b e = refl
-or_right false b e = e
-
 pub under_member : (x g : Gtid) (ys : List Gtid) → Under x ys → member ys g ≡ true → gtid_cmp x g ≡ Less
 under_member x g [] low h = absurd (cc)
 under_member x g (y ∷ ys) low h =
@@ -112,7 +88,7 @@ same_list (x ∷ xs) (y ∷ ys) h k same =
           let both : (gtid_eq x x || member xs x) ≡ member (y ∷ ys) x = same x in absurd (cc)
       | Equal ↦ λ e. cons_same x y (same_gtid x y e) xs ys (same_list xs ys (rises_tail x xs h) (rises_tail y ys k) (λ g. rest x y (same_gtid x y e) g xs ys (rises_head x xs h) (rises_head y ys k) (same g)))
       | Greater ↦ λ e.
-          let low : gtid_cmp y x ≡ Less = flipped x y e in
+          let low : gtid_cmp y x ≡ Less = is_above x y e in
           let one : (gtid_eq y y || member ys y) ≡ true = or_left (gtid_eq y y) (member ys y) (gtid_eq_itself y) in
           let none : member (x ∷ xs) y ≡ false = not_member y (x ∷ xs) (low, under_further y x xs low (rises_head x xs h)) in
           let both : member (x ∷ xs) y ≡ (gtid_eq y y || member ys y) = same y in absurd (cc)

@@ -3,7 +3,7 @@ use Rattle.std.proofs.Common.{inl, inr, ◌≡◌, ◌≤◌, ◌<◌, ◌+◌, 
 use Rattle.std.specs.Result.{is_ok, OnErr}
 use Rattle.std.specs.List.{insert}
 use Rattle.std.specs.List.Sorted.{IsBinarySearchResult, IsSearchInRange, IsSortedBy}
-use Rattle.std.specs.Ordering.{is_lt}
+use Rattle.std.specs.Ordering.{is_lt, match_ordering}
 use Rattle.std.specs.declared.cmp.Ordering.{Ordering}
 use Rattle.std.specs.declared.cmp.Ordering.TheVariants.{Less, Greater}
 use Rattle.std.proofs.lemmas.Bool.{cases_lt}
@@ -11,19 +11,16 @@ use Rattle.std.proofs.lemmas.List.Sorted.{searchable_from_sorted}
 use Rattle.gtid_sets.specs.declared.gtid.Gtid.{Gtid}
 use Rattle.gtid_sets.specs.Gtid.{gtid_cmp, gtid_eq}
 use Rattle.gtid_sets.specs.GtidOrder.{gtid_total}
-use Rattle.gtid_sets.specs.Rising.{rises, put, rises-put}
+use Rattle.gtid_sets.specs.Rising.{rises, is_above, put, rises-put}
+use Rattle.gtid_sets.proofs.BoolLemmas.{or_left, or_right}
 use Rattle.gtid_sets.proofs.GtidLemmas.{same_gtid, gtid_eq_itself, gtid_eq_is, below_differs, above_differs}
-use Rattle.gtid_sets.proofs.RisingLemmas.{member, rises_head, rises_tail, same_list, member_put, flipped}
+use Rattle.gtid_sets.proofs.RisingLemmas.{member, rises_head, rises_tail, same_list, member_put}
 
 -- ---- an element at a place
 member_at : (xs : List Gtid) (i : ℕ) (g : Gtid) → i < length xs → get_or xs i g ≡ g → member xs g ≡ true
 member_at [] i g h e = absurd (omega arith)
 member_at (x ∷ xs) zero g h e = let here : gtid_eq g x ≡ true = subst (λ (z : Gtid). gtid_eq g z ≡ true) (sym e) (gtid_eq_itself g) in rw here refl
 member_at (x ∷ xs) (suc i) g h e = or_right (gtid_eq g x) (member xs g) (member_at xs i g (omega arith) e)
-  where
-    or_right : (a b : Bool) → b ≡ true → (a || b) ≡ true
-    or_right true b e = refl
-    or_right false b e = e
 
 no_member : (xs : List Gtid) (g : Gtid) → ((k : ℕ) (d : Gtid) → k < length xs → gtid_eq g (get_or xs k d) ≡ false) → member xs g ≡ false
 no_member [] g each = refl
@@ -64,13 +61,13 @@ search_tells xs g (Err i) h within at =
     split : (i k : ℕ) (d : Gtid) → (0 ≤ k → k < i → gtid_cmp (get_or xs k d) g ≡ Less) → (i ≤ k → k < length xs → gtid_cmp (get_or xs k d) g ≡ Greater) → k < length xs → gtid_eq g (get_or xs k d) ≡ false
     split i k d low high lt = elim (cases_lt k i) [
       | inl l ↦ above_differs g (get_or xs k d) (low (omega arith) l)
-      | inr m ↦ below_differs g (get_or xs k d) (flipped (get_or xs k d) g (high m lt))
+      | inr m ↦ below_differs g (get_or xs k d) (is_above (get_or xs k d) g (high m lt))
     ]
 
 put_between : (xs : List Gtid) (i : ℕ) (g : Gtid) → i ≤ length xs → ((k : ℕ) (d : Gtid) → k < i → gtid_cmp (get_or xs k d) g ≡ Less) → ((k : ℕ) (d : Gtid) → i ≤ k → k < length xs → gtid_cmp (get_or xs k d) g ≡ Greater) → take i xs ++ g ∷ drop i xs ≡ put g xs
 put_between [] zero g h low high = refl
 put_between [] (suc i) g h low high = absurd (omega arith)
-put_between (x ∷ xs) zero g h low high = let first : gtid_cmp g x ≡ Less = flipped x g (high 0 x (omega arith) (omega arith)) in rw first refl
+put_between (x ∷ xs) zero g h low high = let first : gtid_cmp g x ≡ Less = is_above x g (high 0 x (omega arith) (omega arith)) in rw first refl
 put_between (x ∷ xs) (suc i) g h low high =
     let first : gtid_cmp g x ≡ Greater = above x g (low 0 x (omega arith)) in
     let rest : take i xs ++ g ∷ drop i xs ≡ put g xs = put_between xs i g (omega arith) (λ k d l. low (suc k) d (omega arith)) (λ k d l m. high (suc k) d (omega arith) (omega arith)) in
@@ -91,6 +88,21 @@ put_found xs g h there = same_list (put g xs) xs (rises-put g xs h) h (λ q. mem
       | true ↦ λ e. sym (ap (member xs) (gtid_eq_is q g e) ∙ there)
       | false ↦ λ e. refl
     ] refl
+
+-- what is missing makes one more
+pub length_put : (xs : List Gtid) (g : Gtid) → member xs g ≡ false → length (put g xs) ≡ length xs + 1
+length_put [] g none = refl
+length_put (x ∷ xs) g none =
+    elim (gtid_cmp g x) as (λ o. gtid_cmp g x ≡ o → length (match_ordering o (g ∷ x ∷ xs) (x ∷ xs) (x ∷ put g xs)) ≡ length (x ∷ xs) + 1) [
+      | Less ↦ λ e. omega arith
+      | Equal ↦ λ e. let here : gtid_eq g x ≡ true = subst (λ (z : Gtid). gtid_eq g z ≡ true) (same_gtid g x e) (gtid_eq_itself g) in
+          let some : (gtid_eq g x || member xs g) ≡ true = or_left (gtid_eq g x) (member xs g) here in absurd (cc)
+      | Greater ↦ λ e. let more : length (put g xs) ≡ length xs + 1 = length_put xs g (rest (gtid_eq g x) (member xs g) none) in omega arith
+    ] refl
+  where
+    rest : (a b : Bool) → (a || b) ≡ false → b ≡ false
+    rest true b h = absurd (cc)
+    rest false b h = h
 
 -- the list after an insert that may have failed
 pub rises_inserted : (b : Bool) (xs : List Gtid) (g : Gtid) (i : ℕ) → T (rises xs) → insert xs i g ≡ put g xs → T (rises (if b then insert xs i g else xs))

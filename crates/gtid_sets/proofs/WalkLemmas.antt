@@ -4,10 +4,10 @@ use Rattle.std.specs.List.{list_all, filter}
 use Rattle.std.specs.declared.cmp.Ordering.TheVariants.{Less, Equal, Greater}
 use Rattle.gtid_sets.specs.declared.gtid.Gtid.{Gtid}
 use Rattle.gtid_sets.specs.Gtid.{gtid_cmp, gtid_eq}
-use Rattle.gtid_sets.specs.Rising.{rises}
+use Rattle.gtid_sets.specs.Rising.{rises, is_above}
 use Rattle.gtid_sets.specs.Position.{of_gtids}
 use Rattle.gtid_sets.proofs.GtidLemmas.{same_gtid, gtid_eq_itself, above_differs}
-use Rattle.gtid_sets.proofs.RisingLemmas.{member, Under, under_further, under_member, under_from_members, not_member, member_append, same_list, member_of_gtids, of_rising, rises_head, rises_tail, rises_cons, flipped}
+use Rattle.gtid_sets.proofs.RisingLemmas.{member, Under, under_further, under_member, under_from_members, not_member, member_append, same_list, member_of_gtids, of_rising, rises_head, rises_tail, rises_cons}
 
 -- ---- union
 -- the transactions of two lists, in order
@@ -45,7 +45,7 @@ merged_equal x y xs ys h k tie =
 pub merged_greater : (x y : Gtid) (xs ys : List Gtid) → T (rises (x ∷ xs)) → T (rises (y ∷ ys)) → gtid_cmp x y ≡ Greater → merged (x ∷ xs) (y ∷ ys) ≡ y ∷ merged (x ∷ xs) ys
 merged_greater x y xs ys h k high =
     least_first y (x ∷ xs ++ y ∷ ys) (x ∷ xs ++ ys)
-    (under_append y (x ∷ xs) ys (flipped x y high, under_further y x xs (flipped x y high) (rises_head x xs h)) (rises_head y ys k))
+    (under_append y (x ∷ xs) ys (is_above x y high, under_further y x xs (is_above x y high) (rises_head x xs h)) (rises_head y ys k))
     (λ g. ap (λ b. gtid_eq g x || b) (member_append g xs (y ∷ ys)) ∙ carry (gtid_eq g x) (member xs g) (gtid_eq g y) (member ys g) ∙ ap (λ b. gtid_eq g y || (gtid_eq g x || b)) (sym (member_append g xs ys)))
   where
     carry : (a b c d : Bool) → (a || (b || (c || d))) ≡ (c || (a || (b || d)))
@@ -84,7 +84,7 @@ without_equal x y xs ys h tie =
     (rw gone refl) ∙ without_below y ys xs (subst (λ (z : Gtid). Under z xs) (same_gtid x y tie) (rises_head x xs h))
 
 pub without_greater : (x y : Gtid) (xs ys : List Gtid) → T (rises (x ∷ xs)) → gtid_cmp x y ≡ Greater → without (y ∷ ys) (x ∷ xs) ≡ without ys (x ∷ xs)
-without_greater x y xs ys h high = without_below y ys (x ∷ xs) (flipped x y high, under_further y x xs (flipped x y high) (rises_head x xs h))
+without_greater x y xs ys h high = without_below y ys (x ∷ xs) (is_above x y high, under_further y x xs (is_above x y high) (rises_head x xs h))
 
 pub without_nothing : (xs : List Gtid) → without [] xs ≡ xs
 without_nothing [] = refl
@@ -109,7 +109,7 @@ holds_equal x y xs ys k tie =
 
 pub holds_greater : (x y : Gtid) (xs ys : List Gtid) → T (rises (x ∷ xs)) → gtid_cmp x y ≡ Greater → holds (x ∷ xs) (y ∷ ys) ≡ false
 holds_greater x y xs ys h high =
-    rw (not_member y (x ∷ xs) (flipped x y high, under_further y x xs (flipped x y high) (rises_head x xs h))) refl
+    rw (not_member y (x ∷ xs) (is_above x y high, under_further y x xs (is_above x y high) (rises_head x xs h))) refl
 
 -- ---- a turn of a loop over what is left of two lists
 pub rest_rises : {all rest : List Gtid} {x : Gtid} → all ≡ x ∷ rest → T (rises all) → T (rises rest)

@@ -1,9 +1,9 @@
 -- What positions promise as finite sets.
-use Rattle.std.specs.Prelude.{◌≡◌, ◌≤◌, ◌↔◌, ◌⊎◌, ℕ, true, false, not, ◌&&◌, ◌||◌, List}
+use Rattle.std.specs.Prelude.{◌≡◌, ◌≤◌, ◌↔◌, ◌⊎◌, ℕ, true, false, not, ◌&&◌, ◌||◌, ◌+◌, if◌then◌else◌, List}
 use Rattle.std.specs.List.{list_any}
 use Rattle.gtid_sets.specs.declared.gtid.Gtid.{Gtid}
 use Rattle.gtid_sets.specs.Gtid.{gtid_eq}
-use Rattle.gtid_sets.specs.Position.{Position, nothing, with_gtid, of_gtids, has, union, minus, covers, greatest_of}
+use Rattle.gtid_sets.specs.Position.{Position, nothing, with_gtid, of_gtids, has, union, minus, covers, count, greatest_of}
 
 -- ---- members
 abbrev pub NothingHasNone : Type 0
@@ -28,6 +28,10 @@ TestIsEquality = (a b : Gtid) → (gtid_eq a b ≡ true) ↔ (a ≡ b)
 -- positions with the same members are one
 abbrev pub SameMembersAreOne : Type 0
 SameMembersAreOne = (p q : Position) → ((g : Gtid) → has p g ≡ has q g) → p ≡ q
+
+-- each is counted once
+abbrev pub CountWithGtid : Type 0
+CountWithGtid = (p : Position) (g : Gtid) → count (with_gtid p g) ≡ (if has p g then count p else count p + 1)
 
 -- ---- covers
 abbrev pub CoversIsInclusion : Type 0

@@ -19,22 +19,22 @@ abbrev pub put : Gtid → List Gtid → List Gtid
 put g [] = g ∷ []
 put g (x ∷ xs) = match_ordering (gtid_cmp g x) (g ∷ x ∷ xs) (x ∷ xs) (x ∷ put g xs)
 
-T_both : (a b : Bool) → T a → T b → T (a && b)
+pub T_both : (a b : Bool) → T a → T b → T (a && b)
 T_both true b p q = q
 T_both false b p q = p
 
-T_left : (a b : Bool) → T (a && b) → T a
+pub T_left : (a b : Bool) → T (a && b) → T a
 T_left true b p = tt
 T_left false b p = p
 
-T_right : (a b : Bool) → T (a && b) → T b
+pub T_right : (a b : Bool) → T (a && b) → T b
 T_right true b p = p
 T_right false b p = absurd p
 
-is_below : (o : Ordering) → o ≡ Less → T (is_lt o)
+pub is_below : (o : Ordering) → o ≡ Less → T (is_lt o)
 is_below o e = subst (λ r. T (is_lt r)) (sym e) tt
 
-is_above : (g x : Gtid) → gtid_cmp g x ≡ Greater → gtid_cmp x g ≡ Less
+pub is_above : (g x : Gtid) → gtid_cmp g x ≡ Greater → gtid_cmp x g ≡ Less
 is_above g x e = gtid_total.antisymm x g ∙ ap ordering_reverse e
 
 rises_under : (x g : Gtid) (ys : List Gtid) → gtid_cmp x g ≡ Less → T (rises (x ∷ ys)) → T (rises (x ∷ put g ys))

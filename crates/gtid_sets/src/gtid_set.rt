@@ -180,7 +180,7 @@ pub fn minus(alloc: Global, a: &GtidSet, b: &GtidSet) -> Result<GtidSet, OutOfMe
                 left = more_left;
             }
             Ordering::Equal => {
-                left = more_left;
+                left = more_left; // in both
                 right = more_right;
             }
             Ordering::Greater => right = more_right,

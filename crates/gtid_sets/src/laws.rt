@@ -1,6 +1,6 @@
 //! What positions promise as finite sets. The functions do nothing: each one's contract is a law.
 
-ghost use Rattle.gtid_sets.specs.PositionLaws.{NothingHasNone, WithGtidHas, OfGtidsHas, UnionHas, MinusHas, TestIsEquality, SameMembersAreOne, CoversIsInclusion, CoversIsAnOrder, MinusOfCovered, GreatestIsThere, NoneIsGreater};
+ghost use Rattle.gtid_sets.specs.PositionLaws.{NothingHasNone, WithGtidHas, OfGtidsHas, UnionHas, MinusHas, TestIsEquality, SameMembersAreOne, CountWithGtid, CoversIsInclusion, CoversIsAnOrder, MinusOfCovered, GreatestIsThere, NoneIsGreater};
 
 /// The empty set has no member.
 pub fn nothing_has_none()
@@ -36,6 +36,12 @@ pub fn test_is_equality()
 pub fn same_members_are_one()
     ensures { SameMembersAreOne }
 {}
+
+/// Each member is counted once.
+pub fn count_with_gtid()
+    ensures { CountWithGtid }
+{
+}
 
 /// A set covers another exactly where it has all of its members.
 pub fn covers_is_inclusion()

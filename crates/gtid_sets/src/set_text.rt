@@ -27,10 +27,10 @@ pub fn write_position(set: &GtidSet, into: &mut Vec<u8>) -> Result<(), OutOfMemo
     ensures ok { OnOk result (into.new.items ≡ into.old.items ++ position_text set.now) }
     ensures err { OnErr result (into.new.items ≡ into.old.items) }
 {
-    let before = into.len();
+    let start = into.len();
     into.extend_from_slice(b"MySQL56/")?;
     if write_set(set, into).is_err() {
-        into.truncate(before);
+        into.truncate(start);
         return Err(OutOfMemory);
     }
     Ok(())
