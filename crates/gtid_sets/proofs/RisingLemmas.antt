@@ -1,7 +1,7 @@
 -- Lists in order as sets.
 use Rattle.std.proofs.Common.{◌≡◌, Bool, true, false, ◌&&◌, ◌||◌, cond, T, List, [], ◌∷◌, ◌++◌, refl, ap, sym, subst, ◌∙◌}
 use Rattle.std.specs.List.{list_any, filter}
-use Rattle.std.specs.Ordering.{is_lt, match_ordering, ordering_reverse}
+use Rattle.std.specs.Ordering.{is_lt, match_ordering}
 use Rattle.std.specs.declared.cmp.Ordering.{Ordering}
 use Rattle.std.specs.declared.cmp.Ordering.TheVariants.{Less, Equal, Greater}
 use Rattle.gtid_sets.specs.declared.gtid.Gtid.{Gtid}

@@ -40,8 +40,7 @@ pub fn same_members_are_one()
 /// Each member is counted once.
 pub fn count_with_gtid()
     ensures { CountWithGtid }
-{
-}
+{}
 
 /// A set covers another exactly where it has all of its members.
 pub fn covers_is_inclusion()
