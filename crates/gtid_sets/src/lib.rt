@@ -1,8 +1,15 @@
-//! Transactions, and the entries of a tablet's log.
+//! Transactions, the entries of a tablet's log, and sets of transactions.
 #![tactic(auto)]
 
 mod entry;
 mod gtid;
+mod gtid_set;
+pub mod laws;
+mod set_text;
+#[cfg(test)]
+mod tests;
 
 pub use entry::{Entry, Kind};
 pub use gtid::Gtid;
+pub use gtid_set::{GtidSet, covers, equal, minus, union};
+pub use set_text::{write_position, write_set};
