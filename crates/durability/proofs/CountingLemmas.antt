@@ -1,15 +1,14 @@
 -- Counts of ackers say what the sets say.
-use Rattle.std.proofs.Common.{◌≡◌, ℕ, ◌≤◌, ◌<◌, Bool, true, false, not, ◌&&◌, ◌||◌, refl, arith, List, [], ◌∷◌, cond, length, nat_lt, IsTrue, get_or}
-use Rattle.std.specs.List.{list_any, filter, All, Contains}
+use Rattle.std.proofs.Common.{◌≡◌, ℕ, ◌≤◌, ◌<◌, Bool, true, false, not, ◌&&◌, ◌||◌, refl, arith, List, [], ◌∷◌, cond, length, nat_lt, nat_le, IsTrue, get_or}
+use Rattle.std.specs.List.{list_any, filter, Contains}
 use Rattle.std.proofs.lemmas.List.Folds.{list_any_at, list_any_none}
-use Rattle.std.proofs.lemmas.List.Elements.{All-cons, All-head, All-tail, All-contains}
+use Rattle.std.proofs.lemmas.List.Elements.{All-head, All-tail, All-contains}
 use Rattle.std.proofs.lemmas.Bool.Decides.{nat_tests}
-use Rattle.shard_names.specs.declared.alias.Alias.{Alias}
 use Rattle.shard_names.specs.declared.tablet.Tablet.{Tablet}
-use Rattle.shard_names.proofs.TabletLemmas.{both}
+use Rattle.shard_names.proofs.TabletLemmas.{both, both_left, both_right}
 use Rattle.durability.specs.Rules.{Rules}
 use Rattle.durability.specs.Sets.{TabletSet, ackers_in, Accepted, Meets, HasAll, RevokesPrimary, Establishes}
-use Rattle.durability.specs.Counting.{is_revoked_by_count, CountingIsRevocation, CountingIsEstablishing}
+use Rattle.durability.specs.Counting.{is_accepted, is_revoked, CountingIsRevocation, CountingIsEstablishing}
 
 -- the tablets that are not reached
 abbrev unreached : TabletSet → TabletSet
@@ -62,7 +61,7 @@ few_meet rules tablets reached set primary few accepted =
     ] refl
 
 count_revokes : (rules : Rules) (tablets : List Tablet) (reached : TabletSet) (primary : Tablet) → Contains tablets primary
-    → IsTrue (is_revoked_by_count rules tablets reached primary) → RevokesPrimary rules tablets reached primary
+    → IsTrue (is_revoked rules tablets reached primary) → RevokesPrimary rules tablets reached primary
 count_revokes rules tablets reached primary declared counted set accepted =
     elim (reached primary.alias) as (λ b. reached primary.alias ≡ b → (b || nat_lt (ackers_in rules tablets primary (unreached reached)) (rules.acks primary)) ≡ true → Meets tablets reached set) [
       | true ↦ λ e h. meets_at tablets reached set primary declared e accepted.primary_in
@@ -81,16 +80,16 @@ unreached_apart tablets reached meets =
 
 -- where the count leaves a primary unrevoked, the unreached tablets are accepted for it
 unreached_accepted : (rules : Rules) (tablets : List Tablet) (reached : TabletSet) (primary : Tablet)
-    → is_revoked_by_count rules tablets reached primary ≡ false → Accepted rules tablets primary (unreached reached)
+    → is_revoked rules tablets reached primary ≡ false → Accepted rules tablets primary (unreached reached)
 unreached_accepted rules tablets reached primary h = record {
   primary_in = (let out : reached primary.alias ≡ false = left_false (reached primary.alias) _ h in rw out refl);
   enough = le_of _ _ (right_false (reached primary.alias) _ h);
 }
 
 revokes_counted : (rules : Rules) (tablets : List Tablet) (reached : TabletSet) (primary : Tablet)
-    → RevokesPrimary rules tablets reached primary → IsTrue (is_revoked_by_count rules tablets reached primary)
+    → RevokesPrimary rules tablets reached primary → IsTrue (is_revoked rules tablets reached primary)
 revokes_counted rules tablets reached primary revokes =
-    elim (is_revoked_by_count rules tablets reached primary) as (λ b. is_revoked_by_count rules tablets reached primary ≡ b → b ≡ true) [
+    elim (is_revoked rules tablets reached primary) as (λ b. is_revoked rules tablets reached primary ≡ b → b ≡ true) [
       | true ↦ λ e. refl
       | false ↦ λ e. absurd (unreached_apart tablets reached (revokes (unreached reached) (unreached_accepted rules tablets reached primary e)))
     ] refl
@@ -113,17 +112,29 @@ fewer_within acker a b (t ∷ ts) has =
     (fewer_within acker a b ts (All-tail (λ u. IsTrue (b u.alias) → IsTrue (a u.alias)) t ts has))
     (All-head (λ u. IsTrue (b u.alias) → IsTrue (a u.alias)) t ts has)
 
-establishes_counted : (rules : Rules) (tablets : List Tablet) (reached : TabletSet) (chosen : Tablet) → Contains tablets chosen
-    → Establishes rules tablets reached chosen → IsTrue (reached chosen.alias) × (rules.acks chosen ≤ ackers_in rules tablets chosen reached)
-establishes_counted rules tablets reached chosen declared e =
-    let fewer = fewer_within (rules.is_acker chosen) reached e.quorum tablets e.within in
-    let enough = e.accepted.enough in (
-      All-contains (λ t. IsTrue (e.quorum t.alias) → IsTrue (reached t.alias)) tablets chosen e.within declared e.accepted.primary_in,
-      omega (arith, fewer, enough),
-    )
+pub accepted_of : (rules : Rules) (tablets : List Tablet) (primary : Tablet) (set : TabletSet) → IsTrue (is_accepted rules tablets primary set) → Accepted rules tablets primary set
+accepted_of rules tablets primary set h = record {
+  primary_in = both_left (set primary.alias) _ h;
+  enough = le_of_test _ _ (both_right (set primary.alias) _ h);
+} where
+  le_of_test : (m n : ℕ) → nat_le m n ≡ true → m ≤ n
+  le_of_test m n e = grind (arith, nat_tests)
+
+pub is_accepted_of : (rules : Rules) (tablets : List Tablet) (primary : Tablet) (set : TabletSet) → Accepted rules tablets primary set → IsTrue (is_accepted rules tablets primary set)
+is_accepted_of rules tablets primary set a = both (set primary.alias) _ a.primary_in (test_of_le _ _ a.enough) where
+  test_of_le : (m n : ℕ) → m ≤ n → nat_le m n ≡ true
+  test_of_le m n h = grind (arith, nat_tests)
+
+-- a set that has all of an accepted set is accepted
+more_accepted : (rules : Rules) (tablets : List Tablet) (reached : TabletSet) (chosen : Tablet) → Contains tablets chosen
+    → Establishes rules tablets reached chosen → Accepted rules tablets chosen reached
+more_accepted rules tablets reached chosen declared e = record {
+  primary_in = All-contains (λ t. IsTrue (e.quorum t.alias) → IsTrue (reached t.alias)) tablets chosen e.within declared e.accepted.primary_in;
+  enough = (let fewer = fewer_within (rules.is_acker chosen) reached e.quorum tablets e.within in let enough = e.accepted.enough in omega (arith, fewer, enough));
+}
 
 pub counting_establishes : CountingIsEstablishing
 counting_establishes rules tablets reached chosen declared = (
-  λ counted. record { quorum = reached; accepted = record { primary_in = counted.0; enough = counted.1 }; within = λ k d h i. i },
-  establishes_counted rules tablets reached chosen declared,
+  λ h. record { quorum = reached; accepted = accepted_of rules tablets chosen reached h; within = λ k d within i. i },
+  λ e. is_accepted_of rules tablets chosen reached (more_accepted rules tablets reached chosen declared e),
 )

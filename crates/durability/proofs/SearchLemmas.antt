@@ -1,13 +1,13 @@
 -- The first tablet that a search by counts finds is the first that the sets leave unrevoked.
-use Rattle.std.proofs.Common.{◌≡◌, ◌≤◌, ◌<◌, arith, Bool, true, false, not, ◌&&◌, refl, sym, ap, ◌∙◌, List, [], ◌∷◌, ◌++◌, Option, Some, None, subst, cond, length, get_or, IsTrue, IsNone, IfSome, ◌↔◌}
+use Rattle.std.proofs.Common.{◌≡◌, arith, Bool, true, false, not, ◌&&◌, refl, sym, ap, ◌∙◌, List, [], ◌∷◌, ◌++◌, Some, None, subst, cond, get_or, IsTrue}
 use Rattle.std.specs.List.{find, All, Contains}
 use Rattle.std.proofs.lemmas.List.Elements.{All-nil, All-cons, All-contains, Contains-get_or, Contains-append_left, Contains-append_right}
 use Rattle.shard_names.specs.declared.alias.Alias.{Alias}
 use Rattle.shard_names.specs.declared.tablet.Tablet.{Tablet}
-use Rattle.shard_names.proofs.TabletLemmas.{both, both_left, both_right}
+use Rattle.shard_names.proofs.TabletLemmas.{both_left, both_right}
 use Rattle.durability.specs.Rules.{Rules, is_eligible}
 use Rattle.durability.specs.Sets.{TabletSet, RevokesPrimary, Revokes, IsFirstUnrevoked}
-use Rattle.durability.specs.Counting.{is_revoked_by_count, is_unrevoked_by_count}
+use Rattle.durability.specs.Counting.{is_revoked, is_unrevoked}
 use Rattle.durability.proofs.CountingLemmas.{counting_revokes}
 
 not_true : (b : Bool) → not b ≡ true → b ≡ false
@@ -60,24 +60,24 @@ revoked_of false counted h e = absurd (cc)
 
 -- a tablet of the list that the search passes over is revoked, if it may be promoted
 passed_over : (rules : Rules) (tablets : List Tablet) (reached : TabletSet) (t : Tablet) → Contains tablets t
-    → is_unrevoked_by_count rules tablets reached t ≡ false → IsTrue (is_eligible rules t) → RevokesPrimary rules tablets reached t
-unfolding is_unrevoked_by_count
+    → is_unrevoked rules tablets reached t ≡ false → IsTrue (is_eligible rules t) → RevokesPrimary rules tablets reached t
+unfolding is_unrevoked
 passed_over rules tablets reached t declared fails eligible =
-    (counting_revokes rules tablets reached t declared).0 (revoked_of (is_eligible rules t) (is_revoked_by_count rules tablets reached t) fails eligible)
+    (counting_revokes rules tablets reached t declared).0 (revoked_of (is_eligible rules t) (is_revoked rules tablets reached t) fails eligible)
 
 pub none_found : (rules : Rules) (tablets : List Tablet) (reached : TabletSet)
-    → find (is_unrevoked_by_count rules tablets reached) tablets ≡ None → Revokes rules tablets reached
+    → find (is_unrevoked rules tablets reached) tablets ≡ None → Revokes rules tablets reached
 none_found rules tablets reached h k d within =
-    passed_over rules tablets reached (get_or tablets k d) (Contains-get_or tablets k d within) (none_passes (is_unrevoked_by_count rules tablets reached) tablets h k d within)
+    passed_over rules tablets reached (get_or tablets k d) (Contains-get_or tablets k d within) (none_passes (is_unrevoked rules tablets reached) tablets h k d within)
 
 in_middle : (before after : List Tablet) (t : Tablet) → Contains (before ++ t ∷ after) t
 in_middle before after t = Contains-append_right before (t ∷ after) t (0, omega arith, refl)
 
 pub first_found : (rules : Rules) (tablets : List Tablet) (reached : TabletSet) (t : Tablet)
-    → find (is_unrevoked_by_count rules tablets reached) tablets ≡ Some t → IsFirstUnrevoked rules tablets reached t.alias
-unfolding is_unrevoked_by_count
+    → find (is_unrevoked rules tablets reached) tablets ≡ Some t → IsFirstUnrevoked rules tablets reached t.alias
+unfolding is_unrevoked
 first_found rules tablets reached t h =
-    let f = found (is_unrevoked_by_count rules tablets reached) tablets t h in
+    let f = found (is_unrevoked rules tablets reached) tablets t h in
     let declared : Contains tablets t = subst (λ (ts : List Tablet). Contains ts t) (sym f.split) (in_middle f.before f.after t) in
     record {
       before = f.before;
@@ -86,7 +86,7 @@ first_found rules tablets reached t h =
       split = f.split;
       named = refl;
       eligible = both_left (is_eligible rules t) _ f.passes;
-      unrevoked = λ revokes. not_revoked (is_revoked_by_count rules tablets reached t) (both_right (is_eligible rules t) _ f.passes) ((counting_revokes rules tablets reached t declared).1 revokes);
+      unrevoked = λ revokes. not_revoked (is_revoked rules tablets reached t) (both_right (is_eligible rules t) _ f.passes) ((counting_revokes rules tablets reached t declared).1 revokes);
       earlier = λ k d within. passed_over rules tablets reached (get_or f.before k d)
           (subst (λ (ts : List Tablet). Contains ts (get_or f.before k d)) (sym f.split)
           (Contains-append_left f.before (t ∷ f.after) (get_or f.before k d) (Contains-get_or f.before k d within)))

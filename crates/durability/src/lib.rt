@@ -8,3 +8,6 @@ pub use policy::{Durability, Policy, UnknownPolicy, read_policy};
 pub use revocation::{
     Short, can_establish, counting_is_establishing, counting_is_revocation, first_unrevoked,
 };
+
+#[cfg(test)]
+mod tests;

@@ -106,7 +106,7 @@ impl Policy for Durability {
     }
 }
 
-const POLICIES: [Durability; 5] = [
+pub(crate) const POLICIES: [Durability; 5] = [
     Durability::None,
     Durability::SemiSync,
     Durability::CrossCell,

@@ -3,32 +3,40 @@ ghost use Rattle.std.specs.Option.{option_copied};
 ghost use Rattle.shard_names.specs.Tablets.{is_among, is_declared, tablet_of};
 ghost use Rattle.durability.specs.Rules.{is_eligible};
 ghost use Rattle.durability.specs.Sets.{ackers_in, Revokes, Establishes, IsFirstUnrevoked};
-ghost use Rattle.durability.specs.Counting.{is_revoked_by_count, is_unrevoked_by_count, CountingIsRevocation, CountingIsEstablishing};
+ghost use Rattle.durability.specs.Counting.{is_revoked, is_unrevoked, CountingIsRevocation, CountingIsEstablishing};
 
 use crate::Policy;
 use shard_names::{Alias, PromotionRule, Tablet};
 
-/// Too few of a tablet's ackers are reached: `have` of the `need` that its writes would wait for.
+/// Too few of a tablet's ackers are reached: `have`, where its writes wait for `need`.
 #[derive(Clone, Copy, Debug, PartialEq, Eq)]
 pub struct Short {
     pub have: u32,
     pub need: u32,
 }
 
-/// A primary is revoked exactly where it is reached or too few of its ackers are left unreached.
+/// For every policy: a set meets each set that is accepted for a primary exactly where the primary is in it, or fewer of the
+/// primary's ackers are outside it than the policy asks for.
 pub fn counting_is_revocation()
     ensures { CountingIsRevocation }
 {}
 
-/// A tablet can be established exactly where it is reached and enough of its ackers are.
+/// For every policy: a set has all of some set that is accepted for a tablet exactly where it has the tablet and as many of
+/// its ackers as the policy asks for.
 pub fn counting_is_establishing()
     ensures { CountingIsEstablishing }
 {}
 
-fn is_among(aliases: &[Alias], alias: &Alias) -> bool
+pub(crate) fn is_among(aliases: &[Alias], alias: &Alias) -> bool
     ensures { result ≡ is_among aliases.now alias.now }
 {
     aliases.iter().any(|a| alias == a)
+}
+
+pub(crate) fn find_tablet<'a>(tablets: &'a [Tablet], alias: &Alias) -> Option<&'a Tablet>
+    ensures { option_copied result ≡ tablet_of tablets.now alias.now }
+{
+    tablets.iter().find(|t| t.alias == *alias)
 }
 
 fn is_eligible<P: Policy>(policy: &P, tablet: &Tablet) -> bool
@@ -72,22 +80,22 @@ fn is_revoked<P: Policy>(
     primary: &Tablet,
     reached: &[Alias],
 ) -> bool
-    ensures { result ≡ is_revoked_by_count (P.rules policy.now) tablets.now (is_among reached.now) primary.now }
+    ensures { result ≡ is_revoked (P.rules policy.now) tablets.now (is_among reached.now) primary.now }
 {
     is_among(reached, &primary.alias)
         || count_unreached_ackers(policy, tablets, primary, reached) < policy.acks(primary) as usize
 }
 
-#[tactic(auto, unfolding(crate::specs::Counting::is_unrevoked_by_count))]
+#[tactic(auto, unfolding(crate::specs::Counting::is_unrevoked))]
 fn is_unrevoked<P: Policy>(
     policy: &P,
     tablets: &[Tablet],
-    primary: &Tablet,
+    tablet: &Tablet,
     reached: &[Alias],
 ) -> bool
-    ensures { result ≡ is_unrevoked_by_count (P.rules policy.now) tablets.now (is_among reached.now) primary.now }
+    ensures { result ≡ is_unrevoked (P.rules policy.now) tablets.now (is_among reached.now) tablet.now }
 {
-    is_eligible(policy, primary) && !is_revoked(policy, tablets, primary, reached)
+    is_eligible(policy, tablet) && !is_revoked(policy, tablets, tablet, reached)
 }
 
 fn find_unrevoked<'a, P: Policy>(
@@ -95,21 +103,17 @@ fn find_unrevoked<'a, P: Policy>(
     tablets: &'a [Tablet],
     reached: &[Alias],
 ) -> Option<&'a Tablet>
-    ensures { option_copied result ≡ find (is_unrevoked_by_count (P.rules policy.now) tablets.now (is_among reached.now)) tablets.now }
+    ensures { option_copied result
+        ≡ find (is_unrevoked (P.rules policy.now) tablets.now (is_among reached.now)) tablets.now }
 {
     tablets
         .iter()
         .find(|t| is_unrevoked(policy, tablets, t, reached))
 }
 
-fn find_tablet<'a>(tablets: &'a [Tablet], alias: &Alias) -> Option<&'a Tablet>
-    ensures { option_copied result ≡ tablet_of tablets.now alias.now }
-{
-    tablets.iter().find(|t| t.alias == *alias)
-}
-
-/// The first tablet, in the order of the list, that may be promoted and could still commit a write without any of the
-/// reached tablets. None where the reached tablets revoke every primary. It takes no memory.
+/// The first tablet, in the order of the list, that may be promoted and could still have a write accepted without any of the
+/// reached tablets. None where the reached tablets revoke every tablet that may be promoted: then no primary of the past can
+/// commit anything more without them. A shard's tablets are listed in the order of their aliases. It takes no memory.
 pub fn first_unrevoked<P: Policy>(
     policy: &P,
     tablets: &[Tablet],
@@ -124,8 +128,8 @@ pub fn first_unrevoked<P: Policy>(
     }
 }
 
-/// Whether the reached tablets can establish the chosen one, which is one of them: Ok where enough of its ackers are
-/// reached, and else how many are. It takes no memory.
+/// Whether the reached tablets have all that the chosen one, which is among them, needs as a primary: itself and enough of
+/// its ackers. Else how many of its ackers are reached, and how many it needs. It takes no memory.
 pub fn can_establish<P: Policy>(
     policy: &P,
     tablets: &[Tablet],
@@ -135,9 +139,13 @@ pub fn can_establish<P: Policy>(
     requires few { length tablets.now ≤ 32 }
     requires declared { IsTrue (is_declared tablets.now chosen.now) }
     requires in_reach { IsTrue (is_among reached.now chosen.now) }
-    ensures ok { IfSome (tablet_of tablets.now chosen.now) (λ c. IsOk result ↔ Establishes (P.rules policy.now) tablets.now (is_among reached.now) c) }
-    ensures have { IfErr result (λ short. IfSome (tablet_of tablets.now chosen.now) (λ c. short.have ≡ ackers_in (P.rules policy.now) tablets.now c (is_among reached.now))) }
-    ensures need { IfErr result (λ short. IfSome (tablet_of tablets.now chosen.now) (λ c. short.need ≡ (P.rules policy.now).acks c)) }
+
+    ensures ok { IfSome (tablet_of tablets.now chosen.now) (λ t.
+        IsOk result ↔ Establishes (P.rules policy.now) tablets.now (is_among reached.now) t) }
+    ensures have { IfErr result (λ short. IfSome (tablet_of tablets.now chosen.now) (λ t.
+        short.have ≡ ackers_in (P.rules policy.now) tablets.now t (is_among reached.now))) }
+    ensures need { IfErr result (λ short. IfSome (tablet_of tablets.now chosen.now) (λ t.
+        short.need ≡ (P.rules policy.now).acks t)) }
     ensures below { IfErr result (λ short. short.have < short.need) }
 {
     let Some(tablet) = find_tablet(tablets, chosen) else {

@@ -1,6 +1,5 @@
-use Rattle.std.proofs.Common.{◌≡◌, ◌≢◌, Some, Ok, true, false, sym, ap, ◌∙◌}
-use Rattle.durability.specs.Policies.{policy_name}
-use Rattle.durability.proofs.NameLemmas.{named, found_by_name, policy_of_name}
+use Rattle.std.proofs.Common.{◌≡◌, true, false, sym, ◌∙◌}
+use Rattle.durability.proofs.NameLemmas.{named, found_by_name}
 use Rattle.durability.proofs.policy.read_policy.Goals as goal
 
 pub returns-in-Some-clause-named : goal.returns-in-Some-clause-named

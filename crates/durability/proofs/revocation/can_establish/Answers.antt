@@ -1,4 +1,4 @@
-use Rattle.std.proofs.Common.{◌≡◌, ◌≤◌, ◌<◌, sym, arith}
+use Rattle.std.proofs.Common.{◌≤◌, ◌<◌, sym, arith}
 use Rattle.shard_names.specs.Tablets.{is_among}
 use Rattle.durability.specs.Sets.{ackers_in}
 use Rattle.durability.proofs.EstablishLemmas.{enough_establish, short_fails}

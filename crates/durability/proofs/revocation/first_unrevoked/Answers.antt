@@ -1,5 +1,4 @@
-use Rattle.std.proofs.Common.{◌≡◌, refl, true, false, find, Some, None, ◌∙◌, sym, ap}
-use Rattle.std.specs.Option.{option_copied}
+use Rattle.std.proofs.Common.{◌≡◌, refl, true, false, sym}
 use Rattle.shard_names.specs.Tablets.{is_among}
 use Rattle.durability.proofs.SearchLemmas.{none_found, first_found, first_not_revoked}
 use Rattle.durability.proofs.revocation.first_unrevoked.Goals as goal
