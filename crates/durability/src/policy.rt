@@ -143,8 +143,5 @@ pub fn read_policy(name: &[u8]) -> Result<Durability, UnknownPolicy>
     ensures named { (policy : Durability) → (result ≡ Ok policy) ↔ (name.now ≡ policy_name policy) }
     ensures unknown { IsErr result ↔ ((policy : Durability) → name.now ≢ policy_name policy) }
 {
-    match find_policy(name) {
-        Some(policy) => Ok(policy),
-        None => Err(UnknownPolicy),
-    }
+    find_policy(name).ok_or(UnknownPolicy)
 }

@@ -122,10 +122,8 @@ pub fn first_unrevoked<P: Policy>(
     ensures revoked { IsNone result ↔ Revokes (P.rules policy.now) tablets.now (is_among reached.now) }
     ensures first { IfSome result (IsFirstUnrevoked (P.rules policy.now) tablets.now (is_among reached.now)) }
 {
-    match find_unrevoked(policy, tablets, reached) {
-        Some(tablet) => Some(tablet.alias),
-        None => None,
-    }
+    let tablet = find_unrevoked(policy, tablets, reached)?;
+    Some(tablet.alias)
 }
 
 /// Whether the reached tablets have all that the chosen one, which is among them, needs as a primary: itself and enough of
