@@ -20,10 +20,6 @@ lt_of m n h = grind (arith, nat_tests)
 le_of : (m n : ℕ) → nat_lt m n ≡ false → n ≤ m
 le_of m n h = grind (arith, nat_tests)
 
-is_false : (b : Bool) → (b ≡ true → ⊥) → b ≡ false
-is_false true h = absurd (h refl)
-is_false false h = refl
-
 left_false : (a b : Bool) → (a || b) ≡ false → a ≡ false
 left_false true b h = h
 left_false false b h = refl

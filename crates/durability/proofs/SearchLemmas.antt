@@ -10,10 +10,6 @@ use Rattle.durability.specs.Sets.{TabletSet, RevokesPrimary, Revokes, IsFirstUnr
 use Rattle.durability.specs.Counting.{is_revoked, is_unrevoked}
 use Rattle.durability.proofs.CountingLemmas.{counting_revokes}
 
-not_true : (b : Bool) → not b ≡ true → b ≡ false
-not_true true h = absurd (cc)
-not_true false h = refl
-
 -- what a search for the first element found
 record Found (test : Tablet → Bool) (ts : List Tablet) (t : Tablet) : Type 0 where
   before : List Tablet

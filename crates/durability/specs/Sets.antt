@@ -1,11 +1,12 @@
--- Sets of tablets that commit, revoke and establish (after S. Sougoumarane, Consensus Algorithms at Scale, parts 4 to 6).
--- A set of tablets is a test on their aliases.
+-- Sets of tablets that accept a write, revoke a primary and establish one (after S. Sougoumarane, Consensus Algorithms at
+-- Scale, Establishment and revocation).
 use Rattle.std.specs.Prelude.{◌≡◌, ◌≤◌, ℕ, Bool, ◌&&◌, List, ◌∷◌, ◌++◌, filter, length, IsTrue, All}
 use Rattle.std.specs.List.{list_any}
 use Rattle.shard_names.specs.declared.alias.Alias.{Alias}
 use Rattle.shard_names.specs.declared.tablet.Tablet.{Tablet}
 use Rattle.durability.specs.Rules.{Rules, is_eligible}
 
+-- a set of tablets, as a test on their aliases
 abbrev pub TabletSet : Type 0
 TabletSet = Alias → Bool
 

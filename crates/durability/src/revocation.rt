@@ -66,7 +66,8 @@ fn count_unreached_ackers<P: Policy>(
     primary: &Tablet,
     reached: &[Alias],
 ) -> usize
-    ensures { result ≡ ackers_in (P.rules policy.now) tablets.now primary.now (λ a. not (is_among reached.now a)) }
+    ensures { result
+        ≡ ackers_in (P.rules policy.now) tablets.now primary.now (λ a. not (is_among reached.now a)) }
 {
     tablets
         .iter()
@@ -119,8 +120,10 @@ pub fn first_unrevoked<P: Policy>(
     tablets: &[Tablet],
     reached: &[Alias],
 ) -> Option<Alias>
-    ensures revoked { IsNone result ↔ Revokes (P.rules policy.now) tablets.now (is_among reached.now) }
-    ensures first { IfSome result (IsFirstUnrevoked (P.rules policy.now) tablets.now (is_among reached.now)) }
+    ensures revoked { IsNone result
+        ↔ Revokes (P.rules policy.now) tablets.now (is_among reached.now) }
+    ensures first { IfSome result
+        (IsFirstUnrevoked (P.rules policy.now) tablets.now (is_among reached.now)) }
 {
     let tablet = find_unrevoked(policy, tablets, reached)?;
     Some(tablet.alias)
