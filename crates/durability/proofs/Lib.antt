@@ -1,0 +1,4 @@
+pub mod CountingLemmas
+pub mod SearchLemmas
+pub mod EstablishLemmas
+pub mod NameLemmas

@@ -1,0 +1,5 @@
+pub mod Rules
+pub mod Policies
+pub mod Lawful
+pub mod Sets
+pub mod Counting
