@@ -108,7 +108,7 @@ planned_caused config past c shard a wrote (answers.Refused (refusals.NotEligibl
     let two : (alias_eq a b && is_declared config.tablets a) ≡ true = both_left (alias_eq a b && is_declared config.tablets a) (not (is_eligible_alias config a)) cause in (
       sym (alias_eq_is a b (both_left (alias_eq a b) (is_declared config.tablets a) two)),
       barred (tablet_of config.tablets a) (both_right (alias_eq a b) (is_declared config.tablets a) two)
-        (both_right (alias_eq a b && is_declared config.tablets a) (not (is_eligible_alias config a)) cause),
+          (both_right (alias_eq a b && is_declared config.tablets a) (not (is_eligible_alias config a)) cause),
     )
 planned_caused config past c shard a wrote (answers.Committed g b term) h cause = absurd (false≢true cause)
 planned_caused config past c shard a wrote answers.NoPrimaryRecorded h cause = absurd (false≢true cause)

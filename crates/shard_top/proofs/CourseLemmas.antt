@@ -55,7 +55,7 @@ pub commit_ends : (a b : Kept) (c : ℕ) (alias : Alias) (g : Gtid) → IsOpenWr
 commit_ends a b c alias g h is m same =
     subst (λ (x : Gtid). Met (config_of b) (world_of b) (events.End c (answers.Committed x alias first_term))) (sym same)
     (met_after a b (events.Write c) (events.End c (answers.Committed (own_gtid (config_of a) (world_of a) alias) alias first_term)) m
-      (committed_met (config_of a) (world_of a) c alias h is))
+    (committed_met (config_of a) (world_of a) c alias h is))
 
 pub commit_goes : {T E : Type 0} (r : Result T E) (a b d : Kept) (c : ℕ) (alias : Alias) (g : Gtid) → Makes a b (events.Write c) → g ≡ own_gtid (config_of a) (world_of a) alias
     → OnOk r (Makes b d (events.End c (answers.Committed g alias first_term))) → OnErr r (d ≡ b)

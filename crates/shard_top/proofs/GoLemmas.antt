@@ -63,7 +63,7 @@ pub goes_more : (a b c : Kept) (es fs : List Event) → Goes a b es → Goes b c
 goes_more a b c es fs f g =
     let config : Config = config_of a in
     let there : steps_by (config_of b) (world_of b) fs ≡ steps_by config (world_by config (world_of a) es) fs =
-        ap (λ (k : Config). steps_by k (world_of b) fs) (config_goes a b es f) ∙ ap (λ (w : World). steps_by config w fs) (world_goes a b es f) in
+    ap (λ (k : Config). steps_by k (world_of b) fs) (config_goes a b es f) ∙ ap (λ (w : World). steps_by config w fs) (world_goes a b es f) in
     record {
       tablets = g.tablets ∙ f.tablets;
       steps = g.steps ∙ ap (λ (ss : List Step). b.steps ++ ss) there

@@ -46,9 +46,9 @@ times_on s0 s1 s2 command all left more whole is l g0 =
     let one : List Event = course config (world_of s1) command in
     let g : Goes s1 s2 one = subst (λ (es : List Event). Goes s1 s2 es) (there s0 s1 command l.made l.goes) g0 in
     let now : world_of s2 ≡ world_by config (world_of s1) one =
-        world_goes s1 s2 one g ∙ ap (λ (c : Config). world_by c (world_of s1) one) (config_goes s0 s1 l.made l.goes) in
+    world_goes s1 s2 one g ∙ ap (λ (c : Config). world_by c (world_of s1) one) (config_goes s0 s1 l.made l.goes) in
     let rest : whole ≡ l.made ++ (one ++ times config (world_by config (world_of s1) one) command more) =
-        l.rest ∙ ap (λ (k : ℕ). l.made ++ times config (world_of s1) command k) is in
+    l.rest ∙ ap (λ (k : ℕ). l.made ++ times config (world_of s1) command k) is in
     let product : is_reparent command * left ≡ is_reparent command + is_reparent command * more = rw is (omega arith) in
     record {
       made = l.made ++ one;
@@ -113,7 +113,7 @@ play_on s0 s1 s2 x xs whole l g0 =
     let one : List Event = of_action config (world_of s1) x in
     let g : Goes s1 s2 one = subst (λ (es : List Event). Goes s1 s2 es) (there_action s0 s1 x l.made l.goes) g0 in
     let now : world_of s2 ≡ world_by config (world_of s1) one =
-        world_goes s1 s2 one g ∙ ap (λ (c : Config). world_by c (world_of s1) one) (config_goes s0 s1 l.made l.goes) in
+    world_goes s1 s2 one g ∙ ap (λ (c : Config). world_by c (world_of s1) one) (config_goes s0 s1 l.made l.goes) in
     record {
       made = l.made ++ one;
       goes = goes_more s0 s1 s2 l.made one l.goes g;

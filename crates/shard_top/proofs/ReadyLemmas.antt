@@ -72,7 +72,7 @@ times_ready config w command zero k h = record { idle = h.idle; first = omega (a
 times_ready config w command (suc n) k h =
     let more : is_reparent command * suc n ≡ is_reparent command + is_reparent command * n = omega arith in
     let once : IsReady (world_by config w (course config w command)) (is_reparent command * n + k) =
-        course_ready config w command (is_reparent command * n + k) (omega (arith, h.first, more)) in
+    course_ready config w command (is_reparent command * n + k) (omega (arith, h.first, more)) in
     rw (world_by-append config w (course config w command) (times config (world_by config w (course config w command)) command n))
     (times_ready config (world_by config w (course config w command)) command n k once)
 

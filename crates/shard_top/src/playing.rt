@@ -120,7 +120,12 @@ fn promote(shard: &mut Shard, command: u64, alias: &Alias) -> Result<(), OutOfMe
 }
 
 /// The open reparent is refused.
-fn refuse(shard: &mut Shard, command: u64, alias: &Alias, refusal: &Refusal) -> Result<(), OutOfMemory>
+fn refuse(
+    shard: &mut Shard,
+    command: u64,
+    alias: &Alias,
+    refusal: &Refusal,
+) -> Result<(), OutOfMemory>
     requires opened { IsReparentTo (world_of shard.old) command alias.now }
     requires cause { refusal_of alias.now (tablet_of shard.old.tablets alias.now) ≡ Some refusal.now }
     requires room { length shard.old.steps + 2 ≤ 1000000 }

@@ -175,11 +175,7 @@ fn command_at(commands: &[Command], number: u64) -> Option<&Command>
     commands.get(number as usize - 1)
 }
 
-fn write_event(
-    commands: &[Command],
-    event: &Event,
-    into: &mut Vec<u8>,
-) -> Result<(), OutOfMemory>
+fn write_event(commands: &[Command], event: &Event, into: &mut Vec<u8>) -> Result<(), OutOfMemory>
     ensures { OnOk result (into.new.items ≡ into.old.items ++ event_text commands.now event.now) }
 {
     match event {
@@ -192,11 +188,7 @@ fn write_event(
     }
 }
 
-fn write_events(
-    alloc: Global,
-    commands: &[Command],
-    steps: &[Step],
-) -> Result<Vec<u8>, OutOfMemory>
+fn write_events(alloc: Global, commands: &[Command], steps: &[Step]) -> Result<Vec<u8>, OutOfMemory>
     ensures { IfOk result (λ text. text.items ≡ flat_map (λ s. event_text commands.now s.event) steps.now) }
 {
     let mut text = Vec::new(alloc);

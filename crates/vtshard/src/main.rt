@@ -1,9 +1,15 @@
-//! Plays a script of one replicated MySQL shard, and prints the answers.
+//! `vtshard`: failover control for one replicated MySQL shard, rehearsed by a script.
+//!
+//! The two adapters over standard input and standard output are the one trusted edge: what the system gives and takes no clause says.
 #![tactic(auto)]
 
+#[cfg(test)]
+mod tests;
+
 use shard_top::{Failed, Sink, Source, vtshard_words};
+use std::alloc::{AllocError, Global};
 use std::env;
-use std::io::{self, Read, Write};
+use std::io::{self, ErrorKind, Read, Write};
 use std::process::ExitCode;
 
 /// Standard input, and how often it has failed.
@@ -29,7 +35,7 @@ impl<R: Read + Drop> Source for Input<R> {
     }
 }
 
-/// Standard output, and how often it has failed.
+/// Standard output, and how often it has failed. A write that takes nothing of a piece is a fault too.
 #[derive(Drop)]
 struct Output<W: Write + Drop> {
     inner: W,
@@ -52,6 +58,7 @@ impl<W: Write + Drop> Sink for Output<W> {
     }
 }
 
+/// The program's words, without its name.
 fn words_of(rt: &HostRuntime) -> io::Result<Vec<Vec<u8>>> {
     let mut words = Vec::new(rt.alloc());
     for word in env::args(rt)?.skip(1) {
@@ -60,10 +67,21 @@ fn words_of(rt: &HostRuntime) -> io::Result<Vec<Vec<u8>>> {
     Ok(words)
 }
 
+/// What stands for words that are no text: they have no reading.
+fn unreadable_words(alloc: Global) -> Result<Vec<Vec<u8>>, AllocError> {
+    let mut words = Vec::new(alloc);
+    words.push(Vec::from_slice(alloc, b"?")?)?;
+    Ok(words)
+}
+
 fn main(rt: HostRuntime) -> ExitCode {
     let words = match words_of(&rt) {
-        Ok(words) => words,
-        Err(_) => return ExitCode::from(6),
+        Ok(words) => Ok(words),
+        Err(e) if e.kind() == ErrorKind::InvalidData => unreadable_words(rt.alloc()),
+        Err(_) => Err(AllocError),
+    };
+    let Ok(words) = words else {
+        return ExitCode::from(6);
     };
     let mut input = Input {
         inner: rt.stdin(),

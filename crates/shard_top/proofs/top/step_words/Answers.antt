@@ -7,17 +7,17 @@ use Rattle.shard_top.proofs.top.step_words.Goals as goal
 pub returns-in-Some-clause-answered : goal.returns-in-Some-clause-answered
 returns-in-Some-clause-answered g c = λ calm.
     for_some_text _ _ (λ (text : List ℕ).
-        let words : List (List ℕ) = map (λ (w : Vec ℕ Global). w.items) c.args.words.now.items in
-        let same = rw c.deref.ensures.value at c.in-Some.ensures in
-        rw (usage_is (Some c.in-Some.word.now) c.in-Some.word.now words text same refl, c.ended.ensures.status)
-        (said_fault (record { status = 2; tablets = []; history = []; written = usage_text c.in-Some.word.now }) _ c.say-status.result _ _ _ c.usage_text.result refl no_tablets
-            c.ended.ensures.empty c.usage_text.ensures c.say-status.ensures.said c.say-status.ensures.part))
+    let words : List (List ℕ) = map (λ (w : Vec ℕ Global). w.items) c.args.words.now.items in
+    let same = rw c.deref.ensures.value at c.in-Some.ensures in
+    rw (usage_is (Some c.in-Some.word.now) c.in-Some.word.now words text same refl, c.ended.ensures.status)
+    (said_fault (record { status = 2; tablets = []; history = []; written = usage_text c.in-Some.word.now }) _ c.say-status.result _ _ _ c.usage_text.result refl no_tablets
+    c.ended.ensures.empty c.usage_text.ensures c.say-status.ensures.said c.say-status.ensures.part))
 
 pub returns-in-Err-OutOfMemory-clause-answered : goal.returns-in-Err-OutOfMemory-clause-answered
 returns-in-Err-OutOfMemory-clause-answered g c = λ calm.
     for_some_text _ _ (λ (text : List ℕ).
-        let words : List (List ℕ) = map (λ (w : Vec ℕ Global). w.items) c.args.words.now.items in
-        gave_up (answer_to words text) _ _ _ _ c.ended-in-Err-OutOfMemory.ensures.status c.ended-in-Err-OutOfMemory.ensures.empty (tablets_answered words text))
+    let words : List (List ℕ) = map (λ (w : Vec ℕ Global). w.items) c.args.words.now.items in
+    gave_up (answer_to words text) _ _ _ _ c.ended-in-Err-OutOfMemory.ensures.status c.ended-in-Err-OutOfMemory.ensures.empty (tablets_answered words text))
 
 pub returns-in-Err-Failed-clause-safe : goal.returns-in-Err-Failed-clause-safe
 returns-in-Err-Failed-clause-safe g c = safe_empty _ c.ended-in-Err-Failed.ensures.empty
