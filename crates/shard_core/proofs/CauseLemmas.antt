@@ -1,5 +1,5 @@
 -- Each answer of a run has its cause in the steps before it.
-use Rattle.std.proofs.Common.{◌≡◌, ◌⊎◌, inl, inr, ℕ, zero, suc, ◌+◌, ◌<◌, List, [], ◌∷◌, ◌++◌, Bool, true, false, not, Option, Some, None, cond, ◌&&◌, ◌==◌, is_none, is_some, take, length, refl, ap, sym, subst, ◌∙◌, arith, length-append}
+use Rattle.std.proofs.Common.{◌≡◌, ◌⊎◌, inl, inr, ℕ, zero, suc, ◌+◌, List, [], ◌∷◌, ◌++◌, Bool, true, false, not, Option, Some, None, cond, ◌&&◌, ◌==◌, is_none, is_some, take, length, refl, ap, sym, subst, ◌∙◌, arith, length-append}
 use Rattle.std.proofs.lemmas.Bool.{false≢true}
 use Rattle.std.proofs.lemmas.Bool.Decides.{Decides-eqb}
 use Rattle.std.proofs.lemmas.List.{append-nil, append_assoc}
@@ -23,8 +23,8 @@ use Rattle.shard_core.specs.declared.event.Event.TheVariants as events
 use Rattle.shard_core.specs.declared.event.Reply.TheVariants as replies
 use Rattle.shard_core.specs.declared.event.Step.{Step}
 use Rattle.shard_core.specs.World.{Config, World, Pending, opening, open_command, if_number, own_gtid, is_eligible}
-use Rattle.shard_core.specs.Causes.{first_term, may_be_promoted, is_eligible_alias, is_alias, is_gtid, has_planned_cause, has_write_cause, has_command_cause, has_cause}
-use Rattle.shard_core.specs.Table.{meets, answer, change, after, step_of, asks_for, is_reparent_to, is_fresh_write, is_write, noted, writes_at, written_by, IsStep, IsRunFrom, IsRun}
+use Rattle.shard_core.specs.Causes.{first_term, may_be_promoted, is_eligible_alias, is_alias, has_planned_cause, has_write_cause, has_command_cause, has_cause}
+use Rattle.shard_core.specs.Table.{meets, after, step_of, asks_for, is_reparent_to, is_fresh_write, is_write, noted, writes_at, written_by, IsStep, IsRunFrom, IsRun}
 use Rattle.shard_core.specs.Answered.{begun_by, commands_of, numbered, command_of, Promotes, Writes, IsPromoted, IsPlannedCause, IsWriteCause, IsCause, AnswersHaveCauses}
 use Rattle.shard_core.proofs.ToldLemmas.{gtid_is}
 

@@ -1,12 +1,12 @@
 -- The opening world.
-use Rattle.std.proofs.Common.{◌≡◌, ℕ, ◌≤◌, List, [], ◌∷◌, Bool, true, false, cond, None, map, length, refl, ap, sym, subst, ◌∙◌, arith}
+use Rattle.std.proofs.Common.{◌≡◌, List, [], ◌∷◌, Bool, true, false, cond, None, map, refl, ap, sym, subst, arith}
 use Rattle.shard_names.specs.Tablets.{AreTablets, alias_eq}
 use Rattle.shard_names.specs.declared.alias.Alias.{Alias}
 use Rattle.shard_names.specs.declared.tablet.Tablet.{Tablet}
 use Rattle.shard_core.specs.declared.world.Place.{Place}
 use Rattle.shard_core.specs.declared.event.Step.{Step}
-use Rattle.shard_core.specs.World.{Config, World, TabletState, fresh_tablet, opening}
-use Rattle.shard_core.specs.Places.{Data, opened, tablets_of, state_at, world_seen, config_in, AreCounted, Leads}
+use Rattle.shard_core.specs.World.{TabletState, fresh_tablet, opening}
+use Rattle.shard_core.specs.Places.{Data, opened, tablets_of, state_at, AreCounted, Leads}
 
 pub tablets_opened : (ts : List Tablet) → tablets_of (map opened ts) ≡ ts
 tablets_opened [] = refl

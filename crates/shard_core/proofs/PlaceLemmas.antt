@@ -1,5 +1,5 @@
 -- Where a tablet stands, by its place in the list and by its alias.
-use Rattle.std.proofs.Common.{◌≡◌, ◌≢◌, ℕ, zero, suc, ◌+◌, ◌<◌, ◌≤◌, List, [], ◌∷◌, Bool, true, false, Option, Some, None, cond, not, ltb, length, get_or, set, refl, ap, sym, ◌∙◌, arith}
+use Rattle.std.proofs.Common.{◌≡◌, ◌≢◌, ℕ, zero, suc, ◌+◌, ◌<◌, ◌≤◌, List, [], ◌∷◌, Bool, true, false, Some, None, cond, not, ltb, length, get_or, set, refl, ap, sym, ◌∙◌, arith}
 use Rattle.std.proofs.lemmas.Bool.{false≢true}
 use Rattle.std.specs.List.{position_or_len}
 use Rattle.std.specs.Option.{MatchOption}
@@ -9,7 +9,7 @@ use Rattle.shard_names.proofs.TabletLemmas.{alias_eq_is, alias_eq_itself}
 use Rattle.shard_names.specs.declared.alias.Alias.{Alias}
 use Rattle.shard_names.specs.declared.tablet.Tablet.{Tablet}
 use Rattle.shard_core.specs.declared.world.Place.{Place}
-use Rattle.shard_core.specs.World.{TabletState, fresh_tablet, at_tablet}
+use Rattle.shard_core.specs.World.{TabletState, at_tablet}
 use Rattle.shard_core.specs.Places.{tablets_of, state_of, state_at, place_at, IsAt, IsNowhere}
 
 differs : (a b : Alias) → alias_eq a b ≡ false → a ≢ b

@@ -1,19 +1,18 @@
 -- Each term has at most one promotion.
-use Rattle.std.proofs.Common.{◌≡◌, ℕ, zero, suc, ◌+◌, ◌<◌, ◌≤◌, List, [], ◌∷◌, ◌++◌, Bool, true, false, Option, Some, None, cond, ◌&&◌, is_none, take, length, refl, ap, sym, subst, ◌∙◌, arith, length-append}
+use Rattle.std.proofs.Common.{◌≡◌, ℕ, zero, suc, ◌≤◌, List, [], ◌∷◌, ◌++◌, Bool, true, false, Option, Some, None, cond, ◌&&◌, is_none, length, refl, ap, sym, subst, ◌∙◌, arith, length-append}
 use Rattle.std.proofs.lemmas.Bool.{false≢true}
 use Rattle.std.specs.List.{slice_get}
 use Rattle.shard_names.specs.Tablets.{alias_eq}
-use Rattle.shard_names.proofs.TabletLemmas.{both_left, both_right, alias_eq_is}
+use Rattle.shard_names.proofs.TabletLemmas.{both_right, alias_eq_is}
 use Rattle.shard_names.specs.declared.alias.Alias.{Alias}
 use Rattle.gtid_sets.specs.declared.entry.Entry.{Entry}
-use Rattle.gtid_sets.specs.declared.entry.Kind.{Kind}
 use Rattle.gtid_sets.specs.declared.entry.Kind.TheVariants as kinds
 use Rattle.shard_core.specs.declared.event.Event.{Event}
 use Rattle.shard_core.specs.declared.event.Event.TheVariants as events
 use Rattle.shard_core.specs.declared.event.Step.{Step}
-use Rattle.shard_core.specs.World.{Config, World, TabletState, opening, at_tablet, open_command}
+use Rattle.shard_core.specs.World.{Config, World, TabletState, opening, open_command}
 use Rattle.shard_core.specs.Causes.{is_eligible_alias}
-use Rattle.shard_core.specs.Table.{meets, change, after, asks_for, writes_at, write_entry, world_after, IsRunFrom, IsRun}
+use Rattle.shard_core.specs.Table.{meets, change, after, asks_for, writes_at, write_entry, IsRunFrom, IsRun}
 use Rattle.shard_core.specs.Promotions.{IsNewIn, IsPromotion, OnePromotion, world_at}
 
 abbrev IsPromote : Event → Type 0

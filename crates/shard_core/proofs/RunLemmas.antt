@@ -1,18 +1,17 @@
 -- Runs that go on by one step.
-use Rattle.std.proofs.Common.{◌≡◌, ℕ, zero, suc, ◌+◌, ◌-◌, ◌<◌, ◌≤◌, List, [], ◌∷◌, ◌++◌, Bool, true, false, Option, Some, None, IfSome, is_some, ◌&&◌, length, refl, ap, sym, subst, ◌∙◌, arith, length-append}
+use Rattle.std.proofs.Common.{◌≡◌, ℕ, ◌+◌, ◌<◌, ◌≤◌, List, [], ◌∷◌, ◌++◌, true, Option, Some, None, IfSome, is_some, ◌&&◌, length, refl, ap, sym, subst, ◌∙◌, arith, length-append}
 use Rattle.shard_names.specs.Tablets.{is_declared, tablet_of}
 use Rattle.shard_names.proofs.TabletLemmas.{both_left, both_right}
 use Rattle.shard_names.specs.declared.alias.Alias.{Alias}
 use Rattle.shard_names.specs.declared.tablet.Tablet.{Tablet}
-use Rattle.shard_core.specs.declared.command.Command.{Command}
 use Rattle.shard_core.specs.declared.command.Command.TheVariants as commands
 use Rattle.shard_core.specs.declared.event.Event.{Event}
 use Rattle.shard_core.specs.declared.event.Event.TheVariants as events
 use Rattle.shard_core.specs.declared.event.Step.{Step}
 use Rattle.shard_core.specs.World.{Config, IsConfig, World, opening, open_command}
 use Rattle.shard_core.specs.Causes.{may_be_promoted, is_eligible_alias}
-use Rattle.shard_core.specs.Table.{Met, meets, answer, change, after, step_of, world_after, writes_at, writes_with, promotes, asks_for, IsStep, IsRunFrom, IsRun}
-use Rattle.shard_core.specs.Places.{Data, config_in, world_seen, seen, tablets_of, Follows, IsRecordDeclared, Leads}
+use Rattle.shard_core.specs.Table.{meets, answer, change, after, step_of, world_after, writes_at, asks_for, IsStep, IsRunFrom, IsRun}
+use Rattle.shard_core.specs.Places.{Data, config_in, world_seen, seen, Follows, Leads}
 
 -- ---- one more step
 

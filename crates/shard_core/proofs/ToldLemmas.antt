@@ -1,13 +1,11 @@
 -- Everything told is in the log of its tablet.
-use Rattle.std.proofs.Common.{◌≡◌, ℕ, zero, suc, ◌+◌, List, [], ◌∷◌, ◌++◌, Bool, true, false, Option, Some, None, cond, ◌&&◌, ◌==◌, is_none, is_some, refl, ap, sym, subst, ◌∙◌, arith}
+use Rattle.std.proofs.Common.{◌≡◌, ℕ, zero, suc, List, [], ◌∷◌, ◌++◌, Bool, true, false, Option, Some, None, cond, ◌&&◌, ◌==◌, is_some, refl, ap, sym, subst, ◌∙◌}
 use Rattle.std.proofs.lemmas.Bool.{false≢true}
-use Rattle.std.proofs.lemmas.List.{append-nil}
 use Rattle.std.proofs.lemmas.List.Elements.{Contains-append_left, Contains-push}
 use Rattle.std.proofs.lemmas.Bool.Decides.{Decides-eqb}
 use Rattle.std.proofs.lemmas.Slice.Eq.{bytes_eq-Decides}
-use Rattle.std.specs.List.{slice_get, Contains}
+use Rattle.std.specs.List.{Contains}
 use Rattle.std.specs.Str.{bytes_eq}
-use Rattle.shard_base.specs.Options.{only_if}
 use Rattle.shard_names.specs.Tablets.{alias_eq}
 use Rattle.shard_names.proofs.TabletLemmas.{both_left, both_right, alias_eq_is, alias_eq_itself}
 use Rattle.shard_names.specs.declared.alias.Alias.{Alias}
@@ -20,15 +18,12 @@ use Rattle.shard_core.specs.declared.command.Command.{Command}
 use Rattle.shard_core.specs.declared.command.Command.TheVariants as commands
 use Rattle.shard_core.specs.declared.command.CommandAnswer.{CommandAnswer}
 use Rattle.shard_core.specs.declared.command.CommandAnswer.TheVariants as answers
-use Rattle.shard_core.specs.declared.command.Refusal.TheVariants as refusals
-use Rattle.shard_core.specs.declared.command.Bar.TheVariants as bars
 use Rattle.shard_core.specs.declared.event.Event.{Event}
 use Rattle.shard_core.specs.declared.event.Event.TheVariants as events
-use Rattle.shard_core.specs.declared.event.Reply.TheVariants as replies
 use Rattle.shard_core.specs.declared.event.Step.{Step}
 use Rattle.shard_core.specs.World.{Config, World, Pending, TabletState, opening, at_tablet, open_command, if_number, own_gtid}
 use Rattle.shard_core.specs.Causes.{first_term, is_eligible_alias, is_alias, is_gtid, has_planned_cause, has_write_cause, has_command_cause, has_cause}
-use Rattle.shard_core.specs.Table.{meets, change, after, asks_for, is_reparent_to, is_fresh_write, is_write, may_promote, may_write, noted, logs_at, row_entry, write_entry, writes_at, world_after, IsRunFrom, IsRun}
+use Rattle.shard_core.specs.Table.{meets, change, after, asks_for, is_reparent_to, is_fresh_write, is_write, noted, row_entry, write_entry, writes_at, world_after, IsRunFrom, IsRun}
 use Rattle.shard_core.specs.Promotions.{IsWriteOf, told_at, IsToldBy, EndsAt, KeepsTold}
 
 -- ---- logs only grow

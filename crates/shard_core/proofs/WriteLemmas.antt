@@ -1,13 +1,12 @@
 -- A tablet writes its next own transaction.
-use Rattle.std.proofs.Common.{◌≡◌, ℕ, ◌+◌, ◌-◌, ◌^◌, ◌<◌, ◌≤◌, List, [], ◌∷◌, ◌++◌, Some, length, get_or, set, refl, ap, sym, subst, ◌∙◌, arith}
+use Rattle.std.proofs.Common.{◌≡◌, ℕ, ◌+◌, ◌<◌, ◌≤◌, List, [], ◌∷◌, ◌++◌, length, get_or, set, refl, ap, sym, subst, ◌∙◌, arith}
 use Rattle.shard_names.specs.declared.alias.Alias.{Alias}
-use Rattle.shard_names.specs.declared.tablet.Tablet.{Tablet}
 use Rattle.gtid_sets.specs.declared.gtid.Gtid.{Gtid}
 use Rattle.gtid_sets.specs.declared.entry.Entry.{Entry}
 use Rattle.gtid_sets.specs.declared.entry.Kind.{Kind}
 use Rattle.shard_core.specs.declared.world.Place.{Place}
 use Rattle.shard_core.specs.World.{TabletState, at_tablet}
-use Rattle.shard_core.specs.Places.{tablets_of, state_of, state_at, IsAt, IsCounted, AreCounted, gtid_at, WritesAt}
+use Rattle.shard_core.specs.Places.{state_of, state_at, IsAt, IsCounted, AreCounted, gtid_at, WritesAt}
 use Rattle.shard_core.proofs.PlaceLemmas.{tablet_at, state_here, tablets_set, state_set}
 use Rattle.shard_core.proofs.CountLemmas.{counted_at, counted_more, counted_set, greatest_push}
 

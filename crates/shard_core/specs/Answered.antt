@@ -1,5 +1,5 @@
 -- The causes of the answers of a history, read off its steps: each over what came before the End.
-use Rattle.std.specs.Prelude.{◌≡◌, ℕ, zero, suc, List, [], ◌∷◌, Bool, true, false, Option, Some, None, take, slice_get, Contains}
+use Rattle.std.specs.Prelude.{◌≡◌, ℕ, zero, suc, List, [], ◌∷◌, true, false, Option, Some, None, take, slice_get, Contains}
 use Rattle.std.specs.List.{flat_map}
 use Rattle.shard_names.specs.Tablets.{tablet_of}
 use Rattle.shard_names.specs.declared.alias.Alias.{Alias}
@@ -13,7 +13,6 @@ use Rattle.shard_core.specs.declared.command.Refusal.TheVariants as refusals
 use Rattle.shard_core.specs.declared.command.Bar.TheVariants as bars
 use Rattle.shard_core.specs.declared.event.Event.{Event}
 use Rattle.shard_core.specs.declared.event.Event.TheVariants as events
-use Rattle.shard_core.specs.declared.event.Reply.{Reply}
 use Rattle.shard_core.specs.declared.event.Reply.TheVariants as replies
 use Rattle.shard_core.specs.declared.event.Step.{Step}
 use Rattle.shard_core.specs.World.{is_eligible}

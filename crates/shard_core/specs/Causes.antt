@@ -1,5 +1,5 @@
 -- The cause of an answer: what has to hold where a command ends with it.
-use Rattle.std.specs.Prelude.{ℕ, Bool, true, false, not, ◌&&◌, ◌==◌, Option, Some, None, is_none, is_some}
+use Rattle.std.specs.Prelude.{ℕ, Bool, false, not, ◌&&◌, ◌==◌, Option, Some, None, is_none, is_some}
 use Rattle.shard_names.specs.Tablets.{alias_eq, is_declared, tablet_of}
 use Rattle.shard_names.specs.declared.alias.Alias.{Alias}
 use Rattle.shard_names.specs.declared.tablet.Tablet.{Tablet}
@@ -11,7 +11,7 @@ use Rattle.shard_core.specs.declared.command.CommandAnswer.{CommandAnswer}
 use Rattle.shard_core.specs.declared.command.CommandAnswer.TheVariants as answers
 use Rattle.shard_core.specs.declared.command.Refusal.TheVariants as refusals
 use Rattle.shard_core.specs.declared.command.Bar.TheVariants as bars
-use Rattle.shard_core.specs.World.{Config, World, Pending, is_eligible, open_command}
+use Rattle.shard_core.specs.World.{Config, World, Pending, is_eligible}
 
 -- at this stage the one term
 abbrev pub first_term : ℕ

@@ -1,14 +1,13 @@
 -- What a contract sees of a shard: its tablets, and the steps that it has made.
-use Rattle.std.specs.Prelude.{◌≡◌, ℕ, List, [], ◌∷◌, ◌++◌}
+use Rattle.std.specs.Prelude.{◌≡◌, List, [], ◌∷◌, ◌++◌}
 use Rattle.shard_names.specs.Tablets.{AreTablets}
 use Rattle.shard_names.specs.declared.tablet.Tablet.{Tablet}
 use Rattle.shard_core.specs.Promotions.{OnePromotion, KeepsTold}
 use Rattle.shard_core.specs.Answered.{AnswersHaveCauses}
 use Rattle.shard_core.specs.declared.event.Event.{Event}
-use Rattle.shard_core.specs.declared.event.Reply.{Reply}
 use Rattle.shard_core.specs.declared.event.Step.{Step}
 use Rattle.shard_core.specs.World.{Config, World, opening}
-use Rattle.shard_core.specs.Table.{Met, answer, step_of, world_after, IsRun}
+use Rattle.shard_core.specs.Table.{Met, step_of, world_after, IsRun}
 
 -- What holds of every history of these tablets: it is a run of the shard machine, each term has at most one promotion, everything told is
 -- in the log of its tablet, and each answer has its cause.

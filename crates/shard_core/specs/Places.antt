@@ -1,5 +1,5 @@
 -- The tablets as the shard keeps them: a list of places, each with its log and the greatest number of its own server.
-use Rattle.std.specs.Prelude.{◌≡◌, ◌≢◌, ◌≤◌, ℕ, ◌+◌, zero, suc, true, List, [], ◌∷◌, ◌++◌, Option, Some, None, if◌then◌else◌, length, map, IfSome, ⊤, position, slice_index_or}
+use Rattle.std.specs.Prelude.{◌≡◌, ◌≢◌, ◌≤◌, ℕ, ◌+◌, zero, suc, true, List, [], ◌∷◌, ◌++◌, Option, Some, None, if◌then◌else◌, length, map, IfSome, ⊤, position}
 use Rattle.shard_names.specs.Tablets.{alias_eq, is_declared, tablet_of}
 use Rattle.shard_names.specs.declared.alias.Alias.{Alias}
 use Rattle.shard_names.specs.declared.tablet.Tablet.{Tablet}

@@ -1,5 +1,5 @@
 -- What a history promotes and what it tells, read off the logs.
-use Rattle.std.specs.Prelude.{◌≡◌, ◌≤◌, ℕ, List, [], ◌∷◌, ◌++◌, Option, Some, None, take, length, slice_get, Contains}
+use Rattle.std.specs.Prelude.{◌≡◌, ◌≤◌, ℕ, List, ◌∷◌, ◌++◌, Option, Some, None, take, length, slice_get, Contains}
 use Rattle.shard_names.specs.declared.alias.Alias.{Alias}
 use Rattle.gtid_sets.specs.declared.entry.Entry.{Entry}
 use Rattle.gtid_sets.specs.declared.entry.Kind.{Kind}
@@ -10,7 +10,7 @@ use Rattle.shard_core.specs.declared.event.Event.TheVariants as events
 use Rattle.shard_core.specs.declared.event.Reply.TheVariants as replies
 use Rattle.shard_core.specs.declared.event.Step.{Step}
 use Rattle.shard_core.specs.World.{Config, World, opening}
-use Rattle.shard_core.specs.Table.{after, world_after, IsRun}
+use Rattle.shard_core.specs.Table.{after, world_after}
 
 -- the world after the first so many steps
 abbrev pub world_at : Config → List Step → ℕ → World

@@ -7,13 +7,12 @@ use Rattle.gtid_sets.specs.declared.entry.Entry.{Entry}
 use Rattle.gtid_sets.specs.declared.entry.Kind.TheVariants as kinds
 use Rattle.shard_core.specs.declared.command.Command.{Command}
 use Rattle.shard_core.specs.declared.command.Command.TheVariants as commands
-use Rattle.shard_core.specs.declared.command.CommandAnswer.{CommandAnswer}
 use Rattle.shard_core.specs.declared.event.Event.{Event}
 use Rattle.shard_core.specs.declared.event.Event.TheVariants as events
 use Rattle.shard_core.specs.declared.event.Reply.{Reply}
 use Rattle.shard_core.specs.declared.event.Reply.TheVariants as replies
 use Rattle.shard_core.specs.declared.event.Step.{Step}
-use Rattle.shard_core.specs.World.{Config, World, TabletState, Pending, opening, at_tablet, open_command, own_gtid}
+use Rattle.shard_core.specs.World.{Config, World, Pending, opening, at_tablet, open_command, own_gtid}
 use Rattle.shard_core.specs.Causes.{first_term, is_eligible_alias, has_cause}
 
 -- ---- parts of the rows

@@ -1,5 +1,5 @@
 -- The world of one shard: what stands at a moment.
-use Rattle.std.specs.Prelude.{◌≡◌, ℕ, Bool, true, false, ◌==◌, List, [], Option, Some, None, if◌then◌else◌}
+use Rattle.std.specs.Prelude.{ℕ, Bool, true, false, ◌==◌, List, [], Option, Some, None, if◌then◌else◌}
 use Rattle.shard_base.specs.Options.{◌>>=◌, only_if}
 use Rattle.shard_names.specs.Tablets.{AreTablets, alias_eq, tablet_of}
 use Rattle.shard_names.specs.declared.alias.Alias.{Alias}

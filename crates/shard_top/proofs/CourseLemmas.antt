@@ -1,5 +1,5 @@
 -- The courses of commands, as they are made.
-use Rattle.std.proofs.Common.{◌≡◌, ℕ, ◌+◌, List, [], ◌∷◌, ◌++◌, true, Option, Some, None, Result, OnOk, OnErr, refl, ap, sym, subst, ◌∙◌}
+use Rattle.std.proofs.Common.{◌≡◌, ℕ, ◌+◌, List, [], ◌∷◌, Some, Result, OnOk, OnErr, ap, sym, subst, ◌∙◌}
 use Rattle.shard_names.specs.Tablets.{tablet_of}
 use Rattle.shard_names.specs.declared.alias.Alias.{Alias}
 use Rattle.shard_names.specs.declared.shard_name.ShardName.{ShardName}
@@ -7,7 +7,7 @@ use Rattle.shard_names.specs.declared.tablet.Tablet.{Tablet}
 use Rattle.gtid_sets.specs.declared.gtid.Gtid.{Gtid}
 use Rattle.shard_core.specs.World.{Config, World, own_gtid}
 use Rattle.shard_core.specs.Causes.{first_term}
-use Rattle.shard_core.specs.Table.{Met, meets, after}
+use Rattle.shard_core.specs.Table.{Met}
 use Rattle.shard_core.specs.Kept.{Kept, Makes, config_of, world_of}
 use Rattle.shard_core.specs.declared.command.Command.TheVariants.{Planned, Write}
 use Rattle.shard_core.specs.declared.command.CommandAnswer.TheVariants as answers

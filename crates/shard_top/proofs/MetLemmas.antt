@@ -1,16 +1,13 @@
 -- The events of a course may be made.
-use Rattle.std.proofs.Common.{◌≡◌, ℕ, ◌+◌, ◌≤◌, List, Bool, true, false, cond, ◌==◌, Option, Some, None, refl, ap, sym, subst, ◌∙◌, arith}
+use Rattle.std.proofs.Common.{◌≡◌, ℕ, ◌+◌, ◌≤◌, true, ◌==◌, Option, Some, None, refl, ap, sym, ◌∙◌, arith}
 use Rattle.std.proofs.lemmas.Bool.Decides.{Decides-eqb}
 use Rattle.std.proofs.lemmas.Slice.Eq.{bytes_eq-Decides}
-use Rattle.std.specs.Str.{bytes_eq}
-use Rattle.shard_names.specs.Tablets.{alias_eq, tablet_of}
 use Rattle.shard_names.proofs.TabletLemmas.{alias_eq_itself}
 use Rattle.shard_names.specs.declared.alias.Alias.{Alias}
 use Rattle.shard_names.specs.declared.shard_name.ShardName.{ShardName}
-use Rattle.shard_names.specs.declared.tablet.Tablet.{Tablet}
 use Rattle.gtid_sets.specs.Gtid.{gtid_eq}
 use Rattle.gtid_sets.specs.declared.gtid.Gtid.{Gtid}
-use Rattle.shard_core.specs.World.{Config, World, Pending, is_eligible, own_gtid}
+use Rattle.shard_core.specs.World.{Config, World, Pending, own_gtid}
 use Rattle.shard_core.specs.Causes.{first_term}
 use Rattle.shard_core.specs.Table.{meets, after}
 use Rattle.shard_core.specs.Kept.{Kept, Makes, config_of, world_of}

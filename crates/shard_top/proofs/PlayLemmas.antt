@@ -1,5 +1,5 @@
 -- What is left to play.
-use Rattle.std.proofs.Common.{◌≡◌, ℕ, zero, suc, ◌+◌, ◌*◌, ◌<◌, ◌≤◌, List, [], ◌∷◌, ◌++◌, length, get_or, drop, drop-cons, refl, ap, sym, subst, ◌∙◌, arith}
+use Rattle.std.proofs.Common.{◌≡◌, ℕ, suc, ◌+◌, ◌*◌, ◌<◌, ◌≤◌, List, [], ◌∷◌, ◌++◌, length, get_or, drop, drop-cons, refl, ap, sym, subst, ◌∙◌, arith}
 use Rattle.std.proofs.lemmas.List.{append_assoc, append-nil}
 use Rattle.shard_base.specs.Lists.{IsFront}
 use Rattle.shard_core.specs.World.{Config, World, opening}
@@ -11,7 +11,7 @@ use Rattle.shard_top.specs.declared.script.Action.{Action}
 use Rattle.shard_top.specs.declared.script.Script.{Script}
 use Rattle.shard_top.specs.Script.{Fits}
 use Rattle.shard_top.specs.Played.{course, times, of_action, played_from, played, world_by, steps_by}
-use Rattle.shard_top.specs.Goes.{Goes, GoesUpTo, IsReady, is_reparent, reparents_of, reparents_in, commands_by, commands_in}
+use Rattle.shard_top.specs.Goes.{Goes, GoesUpTo, IsReady, is_reparent, reparents_of, reparents_in, commands_in}
 use Rattle.shard_top.proofs.GoLemmas.{goes_none, goes_more, up_to_more, up_to_longer, world_goes, config_goes, length_goes, steps_by-append}
 use Rattle.shard_top.proofs.ReadyLemmas.{course_ready, course_length, action_ready, action_length, few_reparents, few_commands}
 

@@ -1,15 +1,13 @@
 -- What a course leaves: no open command, and as many reparents as may still come.
-use Rattle.std.proofs.Common.{◌≡◌, ℕ, zero, suc, ◌+◌, ◌*◌, ◌<◌, ◌≤◌, List, [], ◌∷◌, ◌++◌, Bool, true, false, Option, Some, None, length, filter, get_or, refl, ap, sym, subst, ◌∙◌, arith, length-append}
+use Rattle.std.proofs.Common.{◌≡◌, ℕ, zero, suc, ◌+◌, ◌*◌, ◌≤◌, List, [], ◌∷◌, ◌++◌, Option, Some, None, length, filter, refl, ap, ◌∙◌, arith, length-append}
 use Rattle.std.specs.List.{All}
 use Rattle.shard_names.specs.Tablets.{tablet_of}
 use Rattle.shard_names.specs.declared.alias.Alias.{Alias}
 use Rattle.shard_names.specs.declared.shard_name.ShardName.{ShardName}
-use Rattle.shard_core.specs.World.{Config, World, own_gtid}
-use Rattle.shard_core.specs.Causes.{first_term}
+use Rattle.shard_core.specs.World.{Config, World}
 use Rattle.shard_core.specs.Table.{after, writes_at}
 use Rattle.shard_core.specs.declared.command.Command.{Command}
 use Rattle.shard_core.specs.declared.command.Command.TheVariants.{Planned, Write}
-use Rattle.shard_core.specs.declared.command.CommandAnswer.TheVariants as answers
 use Rattle.shard_core.specs.declared.command.Refusal.{Refusal}
 use Rattle.shard_core.specs.declared.event.Event.{Event}
 use Rattle.shard_core.specs.declared.event.Event.TheVariants as events

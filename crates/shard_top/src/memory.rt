@@ -1,7 +1,7 @@
-ghost use Rattle.std.specs.Prelude.{◌≡◌, ◌≤◌, ◌<◌, ◌-◌, ◌+◌, ◌^◌, ◌↔◌, Contains, ◌⊎◌, min, [], length, IsTrue, IsErr, IfOk, OnOk, Some};
+ghost use Rattle.std.specs.Prelude.{◌≡◌, ◌≤◌, ◌<◌, ◌-◌, ◌+◌, ◌^◌, ◌↔◌, Contains, ◌⊎◌, min, [], length, IsTrue, IsErr, IfOk, OnErr, Some};
 ghost use Rattle.std.specs.Io.{ReadsAtMost, WritesAtMost};
 ghost use Rattle.std.specs.Io.KnownBytes.{ReadConsumes, WriteAppends};
-ghost use Rattle.shard_base.specs.Faults.{HasCause, Rose};
+ghost use Rattle.shard_base.specs.Faults.{HasCause};
 ghost use Rattle.shard_top.specs.Streams.{IsNamed, IsFull, next_count};
 
 use crate::{Failed, Sink, Source};
@@ -115,6 +115,7 @@ impl Source for MemorySource {
         ensures fails { IsErr result ↔ IsNamed self.old.fails self.old.calls }
         ensures count { IfOk result (λ n. n ≡ min (min (length room.old) self.old.piece) (length self.old.left)) }
         ensures counted { self.new.calls ≡ next_count self.old.calls }
+        ensures faults { OnErr result (self.new.faults ≡ next_count self.old.faults) }
         ensures same { (self.new.piece ≡ self.old.piece) × (self.new.fails ≡ self.old.fails) }
     {
         if self.calls.count() {
@@ -195,6 +196,7 @@ impl Sink for MemorySink {
         ensures fails { IsErr result ↔ (IsNamed self.old.fails self.old.calls ⊎ IsFull self.old (length piece.now)) }
         ensures count { IfOk result (λ n. n ≡ min (min (length piece.now) self.old.piece) (self.old.room - length self.old.taken)) }
         ensures counted { self.new.calls ≡ next_count self.old.calls }
+        ensures faults { OnErr result (self.new.faults ≡ next_count self.old.faults) }
         ensures same { (self.new.room ≡ self.old.room) × (self.new.piece ≡ self.old.piece) × (self.new.fails ≡ self.old.fails) }
     {
         if self.calls.count() {

@@ -32,7 +32,8 @@ pub fn put_all<K: Sink>(sink: &mut K, bytes: &[u8]) -> Result<(), Failed>
 {
     let mut done = 0;
     while done < bytes.len() {
-        done += sink.put(&bytes[done..])?;
+        let taken = sink.put(&bytes[done..])?;
+        done += taken;
     }
     Ok(())
 }

@@ -1,4 +1,4 @@
-use Rattle.std.proofs.Common.{◌≡◌, ℕ, ◌+◌, refl, arith}
+use Rattle.std.proofs.Common.{◌+◌, refl, arith}
 use Rattle.shard_core.proofs.CountLemmas.{counted_more}
 use Rattle.shard_core.proofs.changes.begin.Goals as goal
 

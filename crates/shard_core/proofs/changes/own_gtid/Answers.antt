@@ -1,4 +1,4 @@
-use Rattle.std.proofs.Common.{◌≡◌, ◌<◌, ◌≤◌, ◌-◌, ◌^◌, ◌∙◌, arith}
+use Rattle.std.proofs.Common.{◌∙◌, arith}
 use Rattle.shard_core.proofs.PlaceLemmas.{nothing_declared}
 use Rattle.shard_core.proofs.WriteLemmas.{few_here, gtid_here}
 use Rattle.shard_core.proofs.changes.own_gtid.Goals as goal

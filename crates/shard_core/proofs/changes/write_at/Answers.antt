@@ -1,4 +1,4 @@
-use Rattle.std.proofs.Common.{◌≡◌, ◌<◌, ◌≤◌, ◌-◌, ◌^◌, ◌∙◌, arith}
+use Rattle.std.proofs.Common.{arith}
 use Rattle.std.proofs.lemmas.Result.{on_ok_weaker}
 use Rattle.shard_core.proofs.PlaceLemmas.{nothing_declared}
 use Rattle.shard_core.proofs.WriteLemmas.{few_here, writes_in_place}

@@ -1,4 +1,4 @@
-use Rattle.std.proofs.Common.{◌≡◌, ◌≤◌, length, arith}
+use Rattle.std.proofs.Common.{length, arith}
 use Rattle.shard_core.specs.Places.{data_of}
 use Rattle.shard_core.proofs.CountLemmas.{counted_more}
 use Rattle.shard_core.proofs.RunLemmas.{leads_on}

@@ -1,10 +1,5 @@
-use Rattle.std.proofs.Common.{◌≡◌, ◌+◌, ◌≤◌, ◌*◌, ◌∷◌, [], List, length, drop, ap, ◌∙◌, arith}
-use Rattle.std.proofs.lemmas.List.{drop_all}
-use Rattle.shard_core.specs.Kept.{Kept, config_of, world_of}
-use Rattle.shard_top.specs.declared.script.Action.{Action}
-use Rattle.shard_top.specs.Played.{played_from}
-use Rattle.shard_top.specs.Goes.{Goes, GoesUpTo}
-use Rattle.shard_top.proofs.PlayLemmas.{PlayLeft, play_start, play_next, play_on, play_part, play_done, at_place, played_whole, played_part, played_front}
+use Rattle.std.proofs.Common.{arith}
+use Rattle.shard_top.proofs.PlayLemmas.{play_start, play_next, play_on, play_part, at_place, played_part}
 use Rattle.shard_top.proofs.playing.play.Goals as goal
 
 pub loop-action-init : goal.loop-action-init

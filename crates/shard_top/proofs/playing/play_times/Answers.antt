@@ -1,6 +1,4 @@
 use Rattle.std.proofs.Common.{◌≡◌, ◌-◌, ◌+◌, suc, arith}
-use Rattle.shard_core.specs.Kept.{config_of, world_of}
-use Rattle.shard_top.specs.Played.{times}
 use Rattle.shard_top.proofs.GoLemmas.{up_to_all}
 use Rattle.shard_top.proofs.PlayLemmas.{times_start, times_next, times_on, times_part, times_done}
 use Rattle.shard_top.proofs.playing.play_times.Goals as goal

@@ -1,4 +1,4 @@
-use Rattle.std.proofs.Common.{◌≡◌, ◌∙◌}
+use Rattle.std.proofs.Common.{◌∙◌}
 use Rattle.shard_core.specs.Kept.{world_of}
 use Rattle.shard_core.specs.declared.command.Command.TheVariants.{Planned}
 use Rattle.shard_top.proofs.GoLemmas.{on_ok_map}

@@ -1,4 +1,4 @@
-use Rattle.std.proofs.Common.{◌≡◌, ◌∷◌, [], List, None, Option, ap, sym, subst, ◌∙◌}
+use Rattle.std.proofs.Common.{Option, subst}
 use Rattle.shard_names.specs.declared.alias.Alias.{Alias}
 use Rattle.shard_core.specs.Kept.{config_of, world_of}
 use Rattle.shard_top.specs.Goes.{GoesUpTo}

@@ -1,5 +1,5 @@
-use Rattle.std.proofs.Common.{◌≡◌, List, [], ℕ, Some, None, map, Vec, Global, refl, sym, subst, ap, ◌∙◌}
-use Rattle.shard_top.specs.Program.{Answer, Answers, answer_to}
+use Rattle.std.proofs.Common.{List, [], ℕ, Some, map, Vec, Global, refl}
+use Rattle.shard_top.specs.Program.{answer_to}
 use Rattle.shard_top.specs.Texts.{usage_text}
 use Rattle.shard_top.proofs.TopLemmas.{gave_up, said_fault, no_tablets, safe_empty, tablets_answered, for_some_text, usage_is}
 use Rattle.shard_top.proofs.top.step_words.Goals as goal

@@ -1,5 +1,4 @@
 use Rattle.std.proofs.Common.{◌≡◌, List, ap, ◌∙◌}
-use Rattle.shard_names.specs.declared.tablet.Tablet.{Tablet}
 use Rattle.shard_core.specs.declared.world.Place.{Place}
 use Rattle.shard_core.specs.Places.{tablets_of}
 use Rattle.shard_core.proofs.OpeningLemmas.{leads_opening, tablets_opened}
