@@ -1,14 +1,4 @@
 pub mod StreamLemmas
-pub mod OptionLemmas
-pub mod LineLemmas
-pub mod NumberLemmas
-pub mod TabletsInOrder
-pub mod ScriptLemmas
-pub mod LineReads
-pub mod GrammarLemmas
-pub mod SpellLemmas
-pub mod FaultLemmas
-pub mod FrontLemmas
 pub mod GoLemmas
 pub mod MetLemmas
 pub mod CourseLemmas

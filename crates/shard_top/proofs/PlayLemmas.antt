@@ -7,9 +7,9 @@ use Rattle.shard_core.specs.Kept.{Kept, config_of, world_of}
 use Rattle.shard_core.specs.declared.command.Command.{Command}
 use Rattle.shard_core.specs.declared.event.Event.{Event}
 use Rattle.shard_core.specs.declared.event.Step.{Step}
-use Rattle.shard_top.specs.declared.script.Action.{Action}
-use Rattle.shard_top.specs.declared.script.Script.{Script}
-use Rattle.shard_top.specs.Script.{Fits}
+use Rattle.shard_script.specs.declared.script.Action.{Action}
+use Rattle.shard_script.specs.declared.script.Script.{Script}
+use Rattle.shard_script.specs.Script.{Fits}
 use Rattle.shard_top.specs.Played.{course, times, of_action, played_from, played, world_by, steps_by}
 use Rattle.shard_top.specs.Goes.{Goes, GoesUpTo, IsReady, is_reparent, reparents_of, reparents_in, commands_in}
 use Rattle.shard_top.proofs.GoLemmas.{goes_none, goes_more, up_to_more, up_to_longer, world_goes, config_goes, length_goes, steps_by-append}

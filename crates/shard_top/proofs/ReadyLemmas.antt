@@ -11,10 +11,10 @@ use Rattle.shard_core.specs.declared.command.Command.TheVariants.{Planned, Write
 use Rattle.shard_core.specs.declared.command.Refusal.{Refusal}
 use Rattle.shard_core.specs.declared.event.Event.{Event}
 use Rattle.shard_core.specs.declared.event.Event.TheVariants as events
-use Rattle.shard_top.specs.declared.script.Action.{Action}
-use Rattle.shard_top.specs.declared.script.Action.TheVariants as actions
-use Rattle.shard_top.specs.declared.script.Script.{Script}
-use Rattle.shard_top.specs.Script.{Fits, FitsShard, is_planned}
+use Rattle.shard_script.specs.declared.script.Action.{Action}
+use Rattle.shard_script.specs.declared.script.Action.TheVariants as actions
+use Rattle.shard_script.specs.declared.script.Script.{Script}
+use Rattle.shard_script.specs.Script.{Fits, FitsShard, is_planned}
 use Rattle.shard_top.specs.Played.{refusal_of, reparent_rest, write_rest, course, times, of_action, world_by}
 use Rattle.shard_top.specs.Goes.{IsReady, may_come, is_reparent, reparents_of, reparents_in, commands_by, commands_in}
 

@@ -3,7 +3,8 @@ use Rattle.std.proofs.Common.{◌≡◌, ℕ, ◌+◌, ◌-◌, ◌<◌, ◌≤�
 use Rattle.std.proofs.lemmas.List.{append_assoc, append-nil, take_all, take-append-drop, drop-drop, length-take-le, nil_from_length}
 use Rattle.std.proofs.Math.Seq.{take-add, take-append_seam}
 use Rattle.std.specs.Io.KnownBytes.{Appends, Consumes, IsAtEnd}
-use Rattle.shard_top.specs.Streams.{WasRead, Reads, ConsumesFront, front}
+use Rattle.shard_script.specs.Script.{front}
+use Rattle.shard_top.specs.Streams.{WasRead, Reads, ConsumesFront}
 
 pub appends_more : (o m n : Option (List ℕ)) (xs ys : List ℕ) → Appends o m xs → Appends m n ys → Appends o n (xs ++ ys)
 appends_more None m n xs ys a b = tt

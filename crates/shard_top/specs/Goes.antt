@@ -7,8 +7,8 @@ use Rattle.shard_core.specs.Kept.{Kept, config_of, world_of}
 use Rattle.shard_core.specs.declared.command.Command.{Command}
 use Rattle.shard_core.specs.declared.command.Command.TheVariants.{Planned, Write}
 use Rattle.shard_core.specs.declared.event.Event.{Event}
-use Rattle.shard_top.specs.declared.script.Action.{Action}
-use Rattle.shard_top.specs.declared.script.Action.TheVariants as actions
+use Rattle.shard_script.specs.declared.script.Action.{Action}
+use Rattle.shard_script.specs.declared.script.Action.TheVariants as actions
 use Rattle.shard_top.specs.Played.{steps_by}
 
 -- these events were made

@@ -1,7 +1,4 @@
 pub mod Streams
-pub mod Lines
-pub mod Script
-pub mod Grammar
 pub mod Played
 pub mod Goes
 pub mod Texts

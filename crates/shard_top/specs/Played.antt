@@ -16,9 +16,9 @@ use Rattle.shard_core.specs.declared.command.Bar.TheVariants as bars
 use Rattle.shard_core.specs.declared.event.Event.{Event}
 use Rattle.shard_core.specs.declared.event.Event.TheVariants as events
 use Rattle.shard_core.specs.declared.event.Step.{Step}
-use Rattle.shard_top.specs.declared.script.Action.{Action}
-use Rattle.shard_top.specs.declared.script.Action.TheVariants as actions
-use Rattle.shard_top.specs.declared.script.Script.{Script}
+use Rattle.shard_script.specs.declared.script.Action.{Action}
+use Rattle.shard_script.specs.declared.script.Action.TheVariants as actions
+use Rattle.shard_script.specs.declared.script.Script.{Script}
 
 -- ---- courses: the events that a command makes
 

@@ -5,8 +5,8 @@ use Rattle.shard_base.specs.Lists.{IsFront}
 use Rattle.shard_names.specs.declared.tablet.Tablet.{Tablet}
 use Rattle.shard_core.specs.Kept.{IsSafe}
 use Rattle.shard_core.specs.declared.event.Step.{Step}
-use Rattle.shard_top.specs.declared.script.Script.{Script}
-use Rattle.shard_top.specs.Script.{reading}
+use Rattle.shard_script.specs.declared.script.Script.{Script}
+use Rattle.shard_script.specs.Script.{reading}
 use Rattle.shard_top.specs.Played.{played}
 use Rattle.shard_top.specs.Texts.{text_of, status_of, usage_text, fault_text}
 use Rattle.shard_top.specs.Words.{usage_fault}

@@ -1,10 +1,7 @@
 -- What a source gives and a sink takes, and when they may fail: the calls of `std::io::Read` and `std::io::Write`, with counts of faults.
 use Rattle.std.specs.Prelude.{◌≡◌, ◌<◌, ◌≤◌, ℕ, ◌+◌, ◌-◌, ◌^◌, min, List, ◌++◌, take, length, Contains, Option, Some, None, ⊤}
 use Rattle.std.specs.Io.KnownBytes.{Appends, Consumes, IsAtEnd}
-
--- the bytes of a script, and one more where there are too many
-unfoldable pub front : List ℕ → List ℕ
-front bytes = take 65537 bytes
+use Rattle.shard_script.specs.Script.{front}
 
 -- the bytes that were left, or the first 65,537 of them
 abbrev pub WasRead : Option (List ℕ) → List ℕ → Type 0

@@ -6,14 +6,14 @@ ghost use Rattle.shard_core.specs.Kept.{Makes, config_of, world_of};
 ghost use Rattle.shard_core.specs.declared.event.Event.TheVariants as events;
 ghost use Rattle.shard_base.specs.Lists.{IsFront};
 ghost use Rattle.shard_top.specs.Played.{refusal_of, reparent_rest, reparent_course, write_rest, write_course, course, times, of_action, played};
-ghost use Rattle.shard_top.specs.Script.{Fits};
+ghost use Rattle.shard_script.specs.Script.{Fits};
 ghost use Rattle.shard_top.specs.Goes.{Goes, GoesUpTo, IsReady, IsReparentTo, IsOpenWrite, is_reparent, reparents_of, commands_by};
 
-use crate::script::{Action, Script};
 use gtid_sets::Gtid;
 use shard_base::OutOfMemory;
 use shard_core::{Bar, Command, CommandAnswer, Event, Refusal, Refused, Reply, Shard, is_eligible};
 use shard_names::{Alias, ShardName};
+use shard_script::{Action, Script};
 
 /// The term of the one promotion.
 const FIRST_TERM: u64 = 1;

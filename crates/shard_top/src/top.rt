@@ -2,7 +2,7 @@ ghost use Rattle.std.specs.Prelude.{◌≡◌, ◌≢◌, ◌≤◌, ◌<◌, []
 ghost use Rattle.std.specs.Io.KnownBytes.{Appends};
 ghost use Rattle.shard_base.specs.Faults.{Rose, Calm};
 ghost use Rattle.shard_names.specs.declared.tablet.Tablet.{Tablet as ATablet};
-ghost use Rattle.shard_top.specs.Script.{Fits, reading};
+ghost use Rattle.shard_script.specs.Script.{Fits, reading};
 ghost use Rattle.shard_top.specs.Streams.{AppendsFront, WasRead};
 ghost use Rattle.shard_top.specs.Texts.{read_fault_text, text_of, status_of};
 ghost use Rattle.shard_top.specs.Words.{usage_fault};
@@ -10,13 +10,13 @@ ghost use Rattle.shard_top.specs.Program.{answer_to, answer_to_reading, answer_t
 ghost use Rattle.shard_core.specs.Kept.{IsSafe};
 
 use crate::playing::play;
-use crate::script::{Script, ScriptFault, read_text};
 use crate::sink::{Sink, put_all};
 use crate::source::{ReadFault, Source, read_all};
 use crate::texts::{fault_text, has_refusal, read_fault_text, text_of, usage_text};
 use crate::words::usage_fault;
 use shard_base::{Items, OutOfMemory};
 use shard_core::{History, Shard, Step};
+use shard_script::{Script, ScriptFault, read_text};
 use std::alloc::Global;
 
 /// How the program ended, and the history that it kept.

@@ -1,4 +1,4 @@
-use Rattle.shard_top.specs.Script.{reading}
+use Rattle.shard_script.specs.Script.{reading}
 use Rattle.shard_top.specs.Program.{answer_to_reading}
 use Rattle.shard_top.proofs.TopLemmas.{gave_up, tablets_read}
 use Rattle.shard_top.proofs.top.run_text.Goals as goal

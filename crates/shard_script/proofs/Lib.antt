@@ -1,0 +1,10 @@
+pub mod OptionLemmas
+pub mod LineLemmas
+pub mod NumberLemmas
+pub mod TabletsInOrder
+pub mod ScriptLemmas
+pub mod LineReads
+pub mod GrammarLemmas
+pub mod SpellLemmas
+pub mod FaultLemmas
+pub mod FrontLemmas

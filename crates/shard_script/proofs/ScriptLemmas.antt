@@ -1,0 +1,212 @@
+-- Lines read one after another.
+use Rattle.std.proofs.Common.{◌≡◌, ℕ, ◌+◌, ◌<◌, ◌≤◌, List, [], ◌∷◌, Bool, true, false, Option, Some, None, Result, Ok, Err, IfOk, cond, ltb, not, ◌&&◌, ◌||◌, length, length-append, subst, refl, sym, ◌∙◌, arith}
+use Rattle.std.specs.Prelude.{All, filter, is_some, is_none, ◌==◌, nat_lt, nat_le, ⊤}
+use Rattle.std.specs.List.{list_any}
+use Rattle.std.specs.Str.{bytes_eq}
+use Rattle.std.proofs.lemmas.Bool.{false≢true}
+use Rattle.std.proofs.lemmas.Bool.Decides.{nat_tests}
+use Rattle.std.proofs.lemmas.List.Elements.{All-nil, All-cons, All-append, filter-append}
+use Rattle.std.proofs.lemmas.Slice.Eq.{bytes_eq-Decides}
+use borrow.Author.Tests.{ltb-false}
+use Rattle.shard_names.specs.declared.shard_name.ShardName.{ShardName}
+use Rattle.shard_names.specs.declared.tablet.Tablet.{Tablet as TabletData}
+use Rattle.shard_names.specs.Tablets.{AreTablets}
+use Rattle.shard_core.specs.declared.command.Command.{Command}
+use Rattle.shard_core.specs.declared.command.Command.TheVariants.{Planned, Write}
+use Rattle.shard_script.specs.declared.line.Line.{Line}
+use Rattle.shard_script.specs.declared.line.Line.TheVariants.{Shard, Tablet, Play}
+use Rattle.shard_script.specs.declared.script.Action.{Action}
+use Rattle.shard_script.specs.declared.script.Action.TheVariants as actions
+use Rattle.shard_script.specs.declared.script.Script.{Script}
+use Rattle.shard_script.specs.declared.script.ScriptFault.{ScriptFault}
+use Rattle.shard_script.specs.Lines.{line_of}
+use Rattle.shard_script.specs.Grammar.{Says}
+use Rattle.shard_script.specs.Script.{Gives, Fits, FitsShard, read_on, read_lines, with_bytes, reading, admits, with_line, has_alias, has_server, is_shard, is_planned, empty_script, fault_behind, lines_of, ended_lines, first_bytes}
+use Rattle.shard_script.proofs.LineLemmas.{says_of, and_both}
+use Rattle.shard_script.proofs.TabletsInOrder.{length-in_place, rises-in_place, apart-in_place}
+
+-- a line past the most that there may be
+pub past_most : (place : ℕ) (s : Script) (ls : List (List ℕ)) → 1000 < place → 0 < length ls → read_on place s ls ≡ Err place
+past_most place s [] far some = absurd (omega arith)
+past_most place s (l ∷ ls) far some = let e : ltb 1000 place ≡ true = grind (arith, nat_tests) in rw e refl
+
+-- ---- what has been read so far fits
+
+record SoFar (place : ℕ) (s : Script) : Type 0 where
+  tablets : AreTablets s.tablets
+  few_tablets : length s.tablets ≤ 32
+  named : s.shard ≡ None → (s.tablets ≡ []) × (s.actions ≡ [])
+  actions : All (FitsShard s.shard) s.actions
+  one_planned : length (filter is_planned s.actions) ≤ 1
+  few : length s.actions < place
+
+-- how often a line gives its command
+Counted : Line → Type 0
+Counted (Shard name) = ⊤
+Counted (Tablet t) = ⊤
+Counted (Play (Planned name a) n) = n ≡ 1
+Counted (Play Write n) = (1 ≤ n) × (n ≤ 100)
+
+counted : (line : List ℕ) (x : Line) → Says line x → Counted x
+unfolding Counted
+counted line (Shard name) h = tt
+counted line (Tablet t) h = tt
+counted line (Play (Planned name a) n) h = h.1
+counted line (Play Write n) h = (h.from_one, h.to_hundred)
+
+pub none_is : {A : Type 0} (o : Option A) → is_none o ≡ true → o ≡ None
+none_is None h = refl
+none_is (Some x) h = absurd (false≢true h)
+
+pub some_not : {A : Type 0} (o : Option A) → is_some o ≡ true → o ≡ None → ⊥
+some_not None h e = false≢true h
+some_not (Some x) h e = absurd (cc)
+
+pub not_true : (b : Bool) → not b ≡ true → b ≡ false
+not_true true h = absurd (false≢true h)
+not_true false h = refl
+
+pub shard_is : (o : Option ShardName) (name : ShardName) → is_shard o name ≡ true → o ≡ Some name
+shard_is None name h = absurd (false≢true h)
+shard_is (Some s) name h =
+    let tests = and_both (bytes_eq s.keyspace name.keyspace) (bytes_eq s.shard name.shard) h in
+    let keyspace : s.keyspace ≡ name.keyspace = (bytes_eq-Decides s.keyspace name.keyspace).0 tests.0 in
+    let shard : s.shard ≡ name.shard = (bytes_eq-Decides s.shard name.shard).0 tests.1 in
+    λ i. Some (record { keyspace = keyspace i; shard = shard i })
+
+none_planned : (xs : List Action) → list_any is_planned xs ≡ false → filter is_planned xs ≡ []
+none_planned [] h = refl
+none_planned (x ∷ xs) h = by_test (is_planned x) (none_planned xs) h
+  where
+    by_test : (b : Bool) → (list_any is_planned xs ≡ false → filter is_planned xs ≡ []) → (b || list_any is_planned xs) ≡ false → cond b (x ∷ filter is_planned xs) (filter is_planned xs) ≡ []
+    by_test true rest k = absurd (false≢true (sym k))
+    by_test false rest k = rest k
+
+one_shard : (place : ℕ) (s : Script) (name : ShardName) → SoFar place s → is_none s.shard ≡ true → SoFar (place + 1) (with_line s (Shard name))
+one_shard place s name h ok =
+    let empty = h.named (none_is s.shard ok) in
+    record {
+      tablets = h.tablets;
+      few_tablets = h.few_tablets;
+      named = λ unnamed. absurd (cc);
+      actions = subst (λ (xs : List Action). All (FitsShard (Some name)) xs) (sym empty.1) (All-nil (FitsShard (Some name)));
+      one_planned = h.one_planned;
+      few = omega (arith, h.few);
+    }
+
+one_tablet : (place : ℕ) (s : Script) (t : TabletData) → SoFar place s → admits s (Tablet t) ≡ true → SoFar (place + 1) (with_line s (Tablet t))
+one_tablet place s t h ok =
+    let p1 = and_both (is_some s.shard && (length s.actions == 0) && nat_lt (length s.tablets) 32 && not (has_alias s.tablets t.alias)) (not (has_server s.tablets t.server)) ok in
+    let p2 = and_both (is_some s.shard && (length s.actions == 0) && nat_lt (length s.tablets) 32) (not (has_alias s.tablets t.alias)) p1.0 in
+    let p3 = and_both (is_some s.shard && (length s.actions == 0)) (nat_lt (length s.tablets) 32) p2.0 in
+    let p4 = and_both (is_some s.shard) (length s.actions == 0) p3.0 in
+    let room : ltb (length s.tablets) 32 ≡ true = p3.1 in
+    let few : length s.tablets < 32 = grind (arith, nat_tests) in
+    record {
+      tablets = record {
+        in_order = rises-in_place t s.tablets h.tablets.in_order (not_true (has_alias s.tablets t.alias) p2.1);
+        apart = apart-in_place t s.tablets h.tablets.apart (not_true (has_server s.tablets t.server) p1.1);
+      };
+      few_tablets = omega (arith, few, length-in_place t s.tablets);
+      named = λ unnamed. absurd (some_not s.shard p4.0 unnamed);
+      actions = h.actions;
+      one_planned = h.one_planned;
+      few = omega (arith, h.few);
+    }
+
+one_command : (place : ℕ) (s : Script) (command : Command) (n : ℕ) → Counted (Play command n) → SoFar place s → admits s (Play command n) ≡ true → SoFar (place + 1) (with_line s (Play command n))
+unfolding Counted
+one_command place s (Planned name a) n once h ok =
+    let tests = and_both (is_shard s.shard name) (not (list_any is_planned s.actions)) ok in
+    let shard : s.shard ≡ Some name = shard_is s.shard name tests.0 in
+    let none : filter is_planned s.actions ≡ [] = none_planned s.actions (not_true (list_any is_planned s.actions) tests.1) in
+    let action : Action = actions.Play (Planned name a) n in
+    let one : FitsShard s.shard action = (shard, once) in
+    record {
+      tablets = h.tablets;
+      few_tablets = h.few_tablets;
+      named = λ unnamed. absurd (let e : Some name ≡ None = sym shard ∙ unnamed in cc);
+      actions = All-append (FitsShard s.shard) s.actions (action ∷ []) h.actions (All-cons (FitsShard s.shard) action [] one (All-nil (FitsShard s.shard)));
+      one_planned = rw (filter-append is_planned s.actions (action ∷ []), none) (omega arith);
+      few = omega (arith, h.few, length-append s.actions (action ∷ []));
+    }
+one_command place s Write n range h ok =
+    let action : Action = actions.Play Write n in
+    let one : FitsShard s.shard action = range in
+    record {
+      tablets = h.tablets;
+      few_tablets = h.few_tablets;
+      named = λ unnamed. absurd (some_not s.shard ok unnamed);
+      actions = All-append (FitsShard s.shard) s.actions (action ∷ []) h.actions (All-cons (FitsShard s.shard) action [] one (All-nil (FitsShard s.shard)));
+      one_planned = rw (filter-append is_planned s.actions (action ∷ [])) (omega (arith, h.one_planned, length-append (filter is_planned s.actions) []));
+      few = omega (arith, h.few, length-append s.actions (action ∷ []));
+    }
+
+one_line : (place : ℕ) (s : Script) (line : Line) → Counted line → SoFar place s → admits s line ≡ true → SoFar (place + 1) (with_line s line)
+one_line place s (Shard name) count h ok = one_shard place s name h ok
+one_line place s (Tablet t) count h ok = one_tablet place s t h ok
+one_line place s (Play command n) count h ok = one_command place s command n count h ok
+
+-- a line that was added may stand there
+pub admitted : (s t : Script) (line : Line) (b : Bool) → cond b (Some (with_line s line)) None ≡ Some t → (b ≡ true) × (with_line s line ≡ t)
+admitted s t line true got = (refl, (cc))
+admitted s t line false got = absurd (cc)
+
+pub with_line_of : (s t : Script) (o : Option Line) → (elim o [ None ↦ None | Some line ↦ cond (admits s line) (Some (with_line s line)) None ]) ≡ Some t → (line : Line) × (o ≡ Some line) × (admits s line ≡ true) × (with_line s line ≡ t)
+with_line_of s t None got = absurd (cc)
+with_line_of s t (Some line) got = let e = admitted s t line (admits s line) got in (line, refl, e.0, e.1)
+
+-- the bytes of a line spell one that may stand there
+pub line_with_bytes : (s t : Script) (bytes : List ℕ) → with_bytes s bytes ≡ Some t → (line : Line) × (line_of bytes ≡ Some line) × (admits s line ≡ true) × (with_line s line ≡ t)
+unfolding with_bytes
+line_with_bytes s t bytes got = with_line_of s t (line_of bytes) got
+
+one_more : (place : ℕ) (s t : Script) (bytes : List ℕ) → SoFar place s → with_bytes s bytes ≡ Some t → SoFar (place + 1) t
+one_more place s t bytes h got =
+    let e = line_with_bytes s t bytes got in
+    subst (λ (x : Script). SoFar (place + 1) x) e.3 (one_line place s e.0 (counted bytes e.0 (says_of bytes e.0 e.1)) h e.2)
+
+on_more : (place : ℕ) (s t : Script) (l : List ℕ) (ls : List (List ℕ)) (b : Bool) (o : Option Script) → ltb 1000 place ≡ b → with_bytes s l ≡ o → SoFar place s → (cond b (Err place) (elim o [ None ↦ Err place | Some u ↦ read_on (place + 1) u ls ])) ≡ Ok t → ((u : Script) → SoFar (place + 1) u → place + 1 ≤ 1001 → read_on (place + 1) u ls ≡ Ok t → Fits t) → Fits t
+on_more place s t l ls true o past with h got rest = absurd (cc)
+on_more place s t l ls false None past with h got rest = absurd (cc)
+on_more place s t l ls false (Some u) past with h got rest = rest u (one_more place s u l h with) (omega (arith, ltb-false 1000 place past)) got
+
+fits_on : (place : ℕ) (s t : Script) (ls : List (List ℕ)) → SoFar place s → place ≤ 1001 → read_on place s ls ≡ Ok t → Fits t
+fits_on place s t [] h le got =
+    let same : s ≡ t = (let e : Ok s ≡ Ok t = got in cc) in
+    subst (λ (x : Script). Fits x) same (record { tablets = h.tablets; few_tablets = h.few_tablets; named = h.named; actions = h.actions; one_planned = h.one_planned; few_actions = omega (arith, h.few) })
+fits_on place s t (l ∷ ls) h le got = on_more place s t l ls (ltb 1000 place) (with_bytes s l) refl refl h got (λ u k less more. fits_on (place + 1) u t ls k less more)
+
+opening : SoFar 1 empty_script
+opening = record {
+  tablets = record { in_order = tt; apart = tt };
+  few_tablets = omega arith;
+  named = λ unnamed. (refl, refl);
+  actions = All-nil (FitsShard None);
+  one_planned = omega arith;
+  few = omega arith;
+}
+
+pub fits_lines : (ls : List (List ℕ)) (s : Script) → read_lines ls ≡ Ok s → Fits s
+fits_lines ls s is = fits_on 1 empty_script s ls opening (omega arith) is
+
+-- ---- the whole text
+
+fault_is : (lines : List (List ℕ)) (r : Result Script ℕ) (t : Script) → fault_behind lines r ≡ Ok t → ⊥
+fault_is lines (Ok s) t h = absurd (cc)
+fault_is lines (Err place) t h = absurd (cc)
+
+pub lines_read : (text : List ℕ) (s : Script) → reading text ≡ Ok s → (length text ≤ 65536) × (read_lines (lines_of text) ≡ Ok s)
+unfolding reading
+lines_read text s h = by_test (nat_le (length text) 65536) refl h
+  where
+    by_test : (b : Bool) → nat_le (length text) 65536 ≡ b → cond b (read_lines (lines_of text)) (fault_behind (ended_lines (first_bytes text)) (read_lines (ended_lines (first_bytes text)))) ≡ Ok s → (length text ≤ 65536) × (read_lines (lines_of text) ≡ Ok s)
+    by_test true is got = (grind (arith, nat_tests), got)
+    by_test false is got = absurd (fault_is (ended_lines (first_bytes text)) (read_lines (ended_lines (first_bytes text))) s got)
+
+pub fits_from : (text : List ℕ) (s : Script) → reading text ≡ Ok s → Fits s
+fits_from text s is = fits_lines (lines_of text) s (lines_read text s is).1
+
+pub gives_fits : (text : List ℕ) (r : Result Script ScriptFault) → Gives r (reading text) → IfOk r Fits
+gives_fits text (Ok s) h = fits_from text s h
+gives_fits text (Err e) h = tt

@@ -1,0 +1,159 @@
+-- What the grammar spells is read, and faults stand where it has none.
+use Rattle.std.proofs.Common.{◌≡◌, ◌≢◌, ℕ, suc, ◌+◌, ◌<◌, ◌≤◌, List, [], ◌∷◌, ◌++◌, Bool, true, false, cond, ltb, not, ◌&&◌, ◌||◌, Option, Some, None, Result, Ok, Err, length, refl, sym, ap, subst, ◌∙◌, arith}
+use Rattle.std.specs.Prelude.{All, filter, is_some, ◌==◌, nat_lt, nat_le}
+use Rattle.std.specs.List.{list_any, AllZip}
+use Rattle.std.specs.Str.{bytes_eq}
+use Rattle.std.proofs.lemmas.Bool.Decides.{nat_tests}
+use Rattle.std.proofs.lemmas.List.{append_assoc, append-nil, length-append}
+use Rattle.std.proofs.lemmas.List.Elements.{All-head, All-tail, filter-append}
+use Rattle.std.proofs.lemmas.List.Sorted.{IsPermutation-sym, All-permutation}
+use Rattle.std.proofs.lemmas.Slice.Eq.{bytes_eq-Decides}
+use Rattle.shard_names.specs.declared.shard_name.ShardName.{ShardName}
+use Rattle.shard_names.specs.declared.tablet.Tablet.{Tablet as TabletData}
+use Rattle.shard_names.specs.Tablets.{alias_eq, AliasesRise, ServersDiffer}
+use Rattle.shard_names.proofs.TabletLemmas.{alias_eq-Decides, both}
+use Rattle.shard_core.specs.declared.command.Command.{Command}
+use Rattle.shard_core.specs.declared.command.Command.TheVariants.{Planned, Write}
+use Rattle.shard_script.specs.declared.line.Line.{Line}
+use Rattle.shard_script.specs.declared.line.Line.TheVariants.{Shard, Tablet, Play}
+use Rattle.shard_script.specs.declared.script.Action.{Action}
+use Rattle.shard_script.specs.declared.script.Action.TheVariants as actions
+use Rattle.shard_script.specs.declared.script.Script.{Script}
+use Rattle.shard_script.specs.Script.{read_on, read_lines, with_bytes, admits, with_line, has_alias, has_server, is_shard, shard_eq, is_planned, in_place, empty_script, reading, lines_of, ended_lines, first_bytes, fault_behind}
+use Rattle.shard_script.specs.Grammar.{IsTabletLine, IsActionLine, Says, AliasesDiffer, IsOfShard, IsShardScript, IsScript, Spell, Spells, ReadsAsSpelled}
+use Rattle.shard_script.specs.Grammar.IsScript.{is_empty, is_shard_script}
+use Rattle.shard_script.proofs.LineReads.{of_says}
+use Rattle.shard_script.proofs.TabletsInOrder.{any-in_place, rises_once, length-in_place}
+use Rattle.shard_script.proofs.ScriptLemmas.{fits_lines, lines_read}
+use Rattle.shard_script.proofs.GrammarLemmas.{placed, IsNew, permuted_all, spell_of}
+
+-- ---- one line
+
+pub step_on : (place : ℕ) (s u : Script) (l : List ℕ) (ls : List (List ℕ)) → place ≤ 1000 → with_bytes s l ≡ Some u → read_on place s (l ∷ ls) ≡ read_on (place + 1) u ls
+step_on place s u l ls le added =
+    let room : ltb 1000 place ≡ false = grind (arith, nat_tests) in
+    ap (λ (b : Bool). let r : Result Script ℕ = cond b (Err place) (elim (with_bytes s l) [ None ↦ Err place | Some t ↦ read_on (place + 1) t ls ]) in r) room
+    ∙ ap (λ (o : Option Script). let r : Result Script ℕ = elim o [ None ↦ Err place | Some t ↦ read_on (place + 1) t ls ] in r) added
+
+added_is : (s : Script) (l : List ℕ) (line : Line) → Says l line → admits s line ≡ true → with_bytes s l ≡ Some (with_line s line)
+unfolding with_bytes
+added_is s l line says ok =
+    ap (λ (o : Option Line). let r : Option Script = elim o [ None ↦ None | Some x ↦ cond (admits s x) (Some (with_line s x)) None ] in r) (of_says l line says)
+    ∙ ap (λ (b : Bool). cond b (Some (with_line s line)) None) ok
+
+-- ---- the tablets' lines
+
+not_same : (b : Bool) → (b ≡ true → ⊥) → b ≡ false
+not_same true h = absurd (h refl)
+not_same false h = refl
+
+or_none : (a b : Bool) → a ≡ false → b ≡ false → (a || b) ≡ false
+or_none a b p q = rw (p, q) refl
+
+new_after : (d : TabletData) (ts : List TabletData) (e : TabletData) → IsNew ts e → d.alias ≢ e.alias → (bytes_eq d.server e.server ≡ true → ⊥) → IsNew (in_place d ts) e
+new_after d ts e h other apart = record {
+  alias = any-in_place (λ t. alias_eq t.alias e.alias) d ts ∙ or_none (alias_eq d.alias e.alias) (has_alias ts e.alias) (not_same (alias_eq d.alias e.alias) (λ same. other ((alias_eq-Decides d.alias e.alias).0 same))) h.alias;
+  server = any-in_place (λ t. bytes_eq t.server e.server) d ts ∙ or_none (bytes_eq d.server e.server) (has_server ts e.server) (not_same (bytes_eq d.server e.server) apart) h.server;
+}
+
+tablet_admitted : (s : Script) (name : ShardName) (t : TabletData) → s.shard ≡ Some name → s.actions ≡ [] → length s.tablets < 32 → IsNew s.tablets t → admits s (Tablet t) ≡ true
+tablet_admitted s name t named none few new =
+    let room : nat_lt (length s.tablets) 32 ≡ true = grind (arith, nat_tests) in
+    both (is_some s.shard && (length s.actions == 0) && nat_lt (length s.tablets) 32 && not (has_alias s.tablets t.alias)) (not (has_server s.tablets t.server))
+    (both (is_some s.shard && (length s.actions == 0) && nat_lt (length s.tablets) 32) (not (has_alias s.tablets t.alias))
+    (both (is_some s.shard && (length s.actions == 0)) (nat_lt (length s.tablets) 32)
+    (both (is_some s.shard) (length s.actions == 0) (ap (λ (o : Option ShardName). is_some o) named) (ap (λ (xs : List Action). length xs == 0) none))
+    room)
+    (ap (λ (b : Bool). not b) new.alias))
+    (ap (λ (b : Bool). not b) new.server)
+
+tablets_on : (place : ℕ) (s : Script) (name : ShardName) (tl al : List (List ℕ)) (ds : List TabletData) → AllZip IsTabletLine tl ds → s.shard ≡ Some name → s.actions ≡ [] → length s.tablets + length ds ≤ 32 → All (IsNew s.tablets) ds → AliasesDiffer ds → ServersDiffer ds → place + length tl ≤ 1001 → read_on place s (tl ++ al) ≡ read_on (place + length tl) (record s { tablets = placed s.tablets ds }) al
+tablets_on place s name [] al [] said named none few new aliases servers lines = let e : place ≡ place + 0 = omega arith in ap (λ (n : ℕ). read_on n s al) e
+tablets_on place s name [] al (d ∷ ds) said named none few new aliases servers lines = absurd said
+tablets_on place s name (l ∷ tl) al [] said named none few new aliases servers lines = absurd said
+tablets_on place s name (l ∷ tl) al (d ∷ ds) said named none few new aliases servers lines =
+    let u : Script = with_line s (Tablet d) in
+    let ok : admits s (Tablet d) ≡ true = tablet_admitted s name d named none (omega arith) (All-head (IsNew s.tablets) d ds new) in
+    let others : All (IsNew s.tablets) ds = All-tail (IsNew s.tablets) d ds new in
+    let after : All (IsNew (in_place d s.tablets)) ds = λ k x lt. new_after d s.tablets _ (others k x lt) (aliases.0 k x lt) (servers.0 k x lt) in
+    let count : (place + 1) + length tl ≡ place + suc (length tl) = omega arith in
+    step_on place s u l (tl ++ al) (omega arith) (added_is s l (Tablet d) said.0 ok)
+    ∙ tablets_on (place + 1) u name tl al ds said.1 named none (omega (arith, few, length-in_place d s.tablets)) after aliases.1 servers.1 (omega arith)
+    ∙ ap (λ (n : ℕ). read_on n (record s { tablets = placed (in_place d s.tablets) ds }) al) count
+
+-- ---- the actions' lines
+
+same_shard : (name : ShardName) → shard_eq name name ≡ true
+same_shard name = both (bytes_eq name.keyspace name.keyspace) (bytes_eq name.shard name.shard) ((bytes_eq-Decides name.keyspace name.keyspace).1 refl) ((bytes_eq-Decides name.shard name.shard).1 refl)
+
+no_planned : (xs : List Action) → length (filter is_planned xs) ≡ 0 → list_any is_planned xs ≡ false
+no_planned [] h = refl
+no_planned (x ∷ xs) h = by_test (is_planned x) (no_planned xs) h
+  where
+    by_test : (b : Bool) → (length (filter is_planned xs) ≡ 0 → list_any is_planned xs ≡ false) → length (cond b (x ∷ filter is_planned xs) (filter is_planned xs)) ≡ 0 → (b || list_any is_planned xs) ≡ false
+    by_test true rest k = absurd (omega (arith, k))
+    by_test false rest k = rest k
+
+command_admitted : (s : Script) (name : ShardName) (c : Command) (n : ℕ) (xs : List Action) → s.shard ≡ Some name → IsOfShard name (actions.Play c n) → length (filter is_planned (s.actions ++ actions.Play c n ∷ xs)) ≤ 1 → admits s (Play c n) ≡ true
+command_admitted s name (Planned m a) n xs named of one =
+    let x : Action = actions.Play (Planned m a) n in
+    let split : filter is_planned (s.actions ++ x ∷ xs) ≡ filter is_planned s.actions ++ x ∷ filter is_planned xs = filter-append is_planned s.actions (x ∷ xs) in
+    let none : length (filter is_planned s.actions) ≡ 0 = omega (arith, one, ap (λ (ys : List Action). length ys) split, length-append (filter is_planned s.actions) (x ∷ filter is_planned xs)) in
+    both (is_shard s.shard m) (not (list_any is_planned s.actions))
+    (ap (λ (o : Option ShardName). is_shard o m) named ∙ ap (λ (k : ShardName). shard_eq name k) of ∙ same_shard name)
+    (ap (λ (b : Bool). not b) (no_planned s.actions none))
+command_admitted s name Write n xs named of one = ap (λ (o : Option ShardName). is_some o) named
+
+actions_on : (place : ℕ) (s : Script) (name : ShardName) (al : List (List ℕ)) (xs : List Action) → AllZip IsActionLine al xs → s.shard ≡ Some name → All (IsOfShard name) xs → length (filter is_planned (s.actions ++ xs)) ≤ 1 → place + length al ≤ 1001 → read_on place s al ≡ Ok (record s { actions = s.actions ++ xs })
+actions_on place s name [] [] said named of one lines = ap (λ (ys : List Action). Ok (record s { actions = ys })) (sym (append-nil s.actions))
+actions_on place s name [] (x ∷ xs) said named of one lines = absurd said
+actions_on place s name (l ∷ al) [] said named of one lines = absurd said
+actions_on place s name (l ∷ al) (actions.Play c n ∷ xs) said named of one lines =
+    let x : Action = actions.Play c n in
+    let u : Script = with_line s (Play c n) in
+    let ok : admits s (Play c n) ≡ true = command_admitted s name c n xs named (All-head (IsOfShard name) x xs of) one in
+    let join : (s.actions ++ x ∷ []) ++ xs ≡ s.actions ++ x ∷ xs = append_assoc s.actions (x ∷ []) xs in
+    let one_after : length (filter is_planned ((s.actions ++ x ∷ []) ++ xs)) ≤ 1 = subst (λ (ys : List Action). length (filter is_planned ys) ≤ 1) (sym join) one in
+    step_on place s u l al (omega arith) (added_is s l (Play c n) said.0 ok)
+    ∙ actions_on (place + 1) u name al xs said.1 named (All-tail (IsOfShard name) x xs of) one_after (omega arith)
+    ∙ ap (λ (ys : List Action). Ok (record s { actions = ys })) join
+
+-- ---- all lines
+
+shard_read : (lines : List (List ℕ)) (s : Script) → length lines ≤ 1000 → IsShardScript lines s → read_lines lines ≡ Ok s
+shard_read lines s few g =
+    let named : Script = with_line empty_script (Shard g.name) in
+    let size : length (g.tablet_lines ++ g.action_lines) ≡ length g.tablet_lines + length g.action_lines = length-append g.tablet_lines g.action_lines in
+    let all_lines : length lines ≡ suc (length (g.tablet_lines ++ g.action_lines)) = ap (λ (ls : List (List ℕ)). length ls) g.split in
+    let got : read_lines lines ≡ Ok (record { shard = Some g.name; tablets = placed [] g.declared; actions = s.actions }) =
+    ap (λ (ls : List (List ℕ)). read_lines ls) g.split
+    ∙ step_on 1 empty_script named g.first (g.tablet_lines ++ g.action_lines) (omega arith) (added_is empty_script g.first (Shard g.name) g.says_shard refl)
+    ∙ tablets_on 2 named g.name g.tablet_lines g.action_lines g.declared g.say_tablets refl refl (omega (arith, g.few_tablets)) (λ k d lt. record { alias = refl; server = refl }) g.aliases_differ g.servers_differ (omega (arith, few, size, all_lines))
+    ∙ actions_on (2 + length g.tablet_lines) (record named { tablets = placed [] g.declared }) g.name g.action_lines s.actions g.say_actions refl g.of_shard g.one_planned (omega (arith, few, size, all_lines)) in
+    let rise : AliasesRise (placed [] g.declared) = (fits_lines lines (record { shard = Some g.name; tablets = placed [] g.declared; actions = s.actions }) got).tablets.in_order in
+    let here = permuted_all g.declared in
+    let same : placed [] g.declared ≡ s.tablets = rises_once (placed [] g.declared) s.tablets rise g.in_order
+    (λ P h. All-permutation P g.declared s.tablets g.tablets (All-permutation P (placed [] g.declared) g.declared (IsPermutation-sym g.declared (placed [] g.declared) here) h))
+    (λ P h. All-permutation P g.declared (placed [] g.declared) here (All-permutation P s.tablets g.declared (IsPermutation-sym g.declared s.tablets g.tablets) h)) in
+    let shard : Some g.name ≡ s.shard = sym g.shard in
+    let whole : record { shard = Some g.name; tablets = placed [] g.declared; actions = s.actions } ≡ s = λ i. record { shard = shard i; tablets = same i; actions = s.actions } in
+    got ∙ ap (λ (t : Script). Ok t) whole
+
+script_read : (lines : List (List ℕ)) (s : Script) → length lines ≤ 1000 → IsScript lines s → read_lines lines ≡ Ok s
+script_read lines s few (is_empty none is) = ap (λ (ls : List (List ℕ)). read_lines ls) none ∙ ap (λ (t : Script). Ok t) (sym is)
+script_read lines s few (is_shard_script g) = shard_read lines s few g
+
+pub read_of : (lines : List (List ℕ)) (s : Script) → Spell lines s → read_lines lines ≡ Ok s
+read_of lines s h = script_read lines s h.few_lines h.script
+
+pub reads_as_spelled : ReadsAsSpelled
+unfolding reading
+reads_as_spelled text s = (
+  (λ got. let r = lines_read text s got in record { few_bytes = r.0; lines = spell_of (lines_of text) s r.1 }),
+  (λ h. short_is text s h),
+)
+  where
+    short_is : (text : List ℕ) (s : Script) → Spells text s → cond (nat_le (length text) 65536) (read_lines (lines_of text)) (fault_behind (ended_lines (first_bytes text)) (read_lines (ended_lines (first_bytes text)))) ≡ Ok s
+    short_is text s h =
+        let short : nat_le (length text) 65536 ≡ true = (let few : length text ≤ 65536 = h.few_bytes in grind (arith, nat_tests)) in
+        ap (λ (b : Bool). cond b (read_lines (lines_of text)) (fault_behind (ended_lines (first_bytes text)) (read_lines (ended_lines (first_bytes text))))) short ∙ read_of (lines_of text) s h.lines

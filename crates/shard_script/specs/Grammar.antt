@@ -1,0 +1,146 @@
+-- The grammar of a script: what each line says, and which lines make a script. The words of a line are parted by single spaces.
+use Rattle.std.specs.Prelude.{◌≡◌, ◌≢◌, ◌↔◌, ℕ, ◌+◌, ◌-◌, ◌<◌, ◌≤◌, List, [], ◌∷◌, ◌++◌, true, Some, Ok, Err, length, take, filter, All, codes, ⊤}
+use Rattle.std.specs.Char.{is_ascii_digit}
+use Rattle.std.specs.List.{list_all, AllZip}
+use Rattle.std.specs.List.Sorted.{IsPermutation}
+use Rattle.std.specs.Str.Parse.{digits_value}
+use Rattle.shard_names.specs.Alias.{alias_reading}
+use Rattle.shard_names.specs.ShardName.{shard_name_reading}
+use Rattle.shard_names.specs.declared.alias.Alias.{Alias}
+use Rattle.shard_names.specs.declared.shard_name.ShardName.{ShardName}
+use Rattle.shard_names.specs.declared.tablet.Tablet.{Tablet as TabletData}
+use Rattle.shard_names.specs.declared.tablet.TabletType.{TabletType}
+use Rattle.shard_names.specs.declared.tablet.TabletType.TheVariants.{Replica, Rdonly, Spare}
+use Rattle.shard_names.specs.Tablets.{AliasesRise, ServersDiffer}
+use Rattle.shard_core.specs.declared.command.Command.TheVariants.{Planned, Write}
+use Rattle.shard_script.specs.declared.line.Line.{Line}
+use Rattle.shard_script.specs.declared.line.Line.TheVariants.{Shard, Tablet, Play}
+use Rattle.shard_script.specs.declared.script.Action.{Action}
+use Rattle.shard_script.specs.declared.script.Action.TheVariants as actions
+use Rattle.shard_script.specs.declared.script.Script.{Script}
+use Rattle.shard_script.specs.Lines.{words_of, server_reading}
+use Rattle.shard_script.specs.Script.{is_planned, empty_script, lines_of, ended_lines, first_bytes, reading}
+
+-- `shard K/S none`
+pub record IsShardLine (line : List ℕ) (name : ShardName) : Type 0 where
+  pub name_text : List ℕ
+  pub words : words_of line ≡ codes "shard" ∷ name_text ∷ codes "none" ∷ []
+  pub name_is : shard_name_reading name_text ≡ Some name
+
+-- `replica` or `spare`
+abbrev pub IsTypeWord : List ℕ → TabletType → Type 0
+IsTypeWord text Replica = text ≡ codes "replica"
+IsTypeWord text Rdonly = ⊥
+IsTypeWord text Spare = text ≡ codes "spare"
+
+-- `tablet ALIAS TYPE UUID`
+pub record IsTabletLine (line : List ℕ) (tablet : TabletData) : Type 0 where
+  pub alias_text : List ℕ
+  pub type_text : List ℕ
+  pub server_text : List ℕ
+  pub words : words_of line ≡ codes "tablet" ∷ alias_text ∷ type_text ∷ server_text ∷ []
+  pub alias_is : alias_reading alias_text ≡ Ok tablet.alias
+  pub type_is : IsTypeWord type_text tablet.kind
+  pub server_is : server_reading server_text ≡ Some tablet.server
+
+-- `PlannedReparentShard K/S --new-primary ALIAS`
+pub record IsPlannedLine (line : List ℕ) (name : ShardName) (new_primary : Alias) : Type 0 where
+  pub name_text : List ℕ
+  pub alias_text : List ℕ
+  pub words : words_of line ≡ codes "PlannedReparentShard" ∷ name_text ∷ codes "--new-primary" ∷ alias_text ∷ []
+  pub name_is : shard_name_reading name_text ≡ Some name
+  pub alias_is : alias_reading alias_text ≡ Ok new_primary
+
+-- `write N`: N in decimal digits, from 1 to 100
+pub record IsWriteLine (line : List ℕ) (count : ℕ) : Type 0 where
+  pub digits : List ℕ
+  pub words : words_of line ≡ codes "write" ∷ digits ∷ []
+  pub some_digit : 0 < length digits
+  pub are_digits : list_all is_ascii_digit digits ≡ true
+  pub value : digits_value 10 digits ≡ count
+  pub from_one : 1 ≤ count
+  pub to_hundred : count ≤ 100
+
+-- a line that gives a command
+abbrev pub IsActionLine : List ℕ → Action → Type 0
+IsActionLine line (actions.Play (Planned name a) n) = IsPlannedLine line name a × (n ≡ 1)
+IsActionLine line (actions.Play Write n) = IsWriteLine line n
+
+-- what a line says
+abbrev pub Says : List ℕ → Line → Type 0
+Says line (Shard name) = IsShardLine line name
+Says line (Tablet t) = IsTabletLine line t
+Says line (Play command n) = IsActionLine line (actions.Play command n)
+
+-- ---- a whole script
+
+-- no alias is declared twice
+abbrev pub AliasesDiffer : List TabletData → Type 0
+AliasesDiffer [] = ⊤
+AliasesDiffer (t ∷ ts) = All (λ u. t.alias ≢ u.alias) ts × AliasesDiffer ts
+
+-- a reparent is of this shard
+abbrev pub IsOfShard : ShardName → Action → Type 0
+IsOfShard name (actions.Play (Planned n a) k) = n ≡ name
+IsOfShard name (actions.Play Write k) = ⊤
+
+-- the lines of a script: first the shard, then its tablets, then what is done to it
+pub record IsShardScript (lines : List (List ℕ)) (s : Script) : Type 0 where
+  pub first : List ℕ
+  pub tablet_lines : List (List ℕ)
+  pub action_lines : List (List ℕ)
+  pub split : lines ≡ first ∷ (tablet_lines ++ action_lines)
+  -- each line says its part
+  pub name : ShardName
+  pub declared : List TabletData
+  pub says_shard : IsShardLine first name
+  pub say_tablets : AllZip IsTabletLine tablet_lines declared
+  pub say_actions : AllZip IsActionLine action_lines s.actions
+  -- the script has the declared tablets in alias order
+  pub shard : s.shard ≡ Some name
+  pub tablets : IsPermutation declared s.tablets
+  pub in_order : AliasesRise s.tablets
+  -- at most 32 tablets that all differ, and at most one reparent, of this shard
+  pub few_tablets : length declared ≤ 32
+  pub aliases_differ : AliasesDiffer declared
+  pub servers_differ : ServersDiffer declared
+  pub one_planned : length (filter is_planned s.actions) ≤ 1
+  pub of_shard : All (IsOfShard name) s.actions
+
+-- lines that make a script: none at all, or those of a shard
+pub data IsScript (lines : List (List ℕ)) (s : Script) : Type 0 where
+  is_empty : lines ≡ [] → s ≡ empty_script → IsScript lines s
+  is_shard_script : IsShardScript lines s → IsScript lines s
+
+-- at most 1,000 lines that make a script
+pub record Spell (lines : List (List ℕ)) (s : Script) : Type 0 where
+  pub few_lines : length lines ≤ 1000
+  pub script : IsScript lines s
+
+-- a text of at most 65,536 bytes whose lines make a script
+pub record Spells (text : List ℕ) (s : Script) : Type 0 where
+  pub few_bytes : length text ≤ 65536
+  pub lines : Spell (lines_of text) s
+
+-- ---- the first fault
+
+-- the lines before this one make a script, and with it they make none
+pub record IsFirstFault (lines : List (List ℕ)) (place : ℕ) : Type 0 where
+  pub counted : 0 < place
+  pub within : place ≤ length lines
+  pub so_far : Script
+  pub before : Spell (take (place - 1) lines) so_far
+  pub here : (s : Script) → Spell (take place lines) s → ⊥
+
+-- The first line with a fault. In a text of more than 65,536 bytes whose ended lines within these make a script it is the line behind them.
+pub data HasFault (text : List ℕ) (place : ℕ) : Type 0 where
+  in_short : length text ≤ 65536 → IsFirstFault (lines_of text) place → HasFault text place
+  in_long : 65536 < length text → IsFirstFault (ended_lines (first_bytes text)) place → HasFault text place
+  too_long : (s : Script) → 65536 < length text → Spell (ended_lines (first_bytes text)) s → place ≡ length (ended_lines (first_bytes text)) + 1 → HasFault text place
+
+-- the reader answers what the grammar has
+abbrev pub ReadsAsSpelled : Type 0
+ReadsAsSpelled = (text : List ℕ) (s : Script) → (reading text ≡ Ok s) ↔ Spells text s
+
+abbrev pub FaultsAsSpelled : Type 0
+FaultsAsSpelled = (text : List ℕ) (place : ℕ) → (reading text ≡ Err place) ↔ HasFault text place

@@ -1,0 +1,146 @@
+-- A script, and the fold over its lines that reads it.
+use Rattle.std.specs.Prelude.{◌≡◌, ℕ, ◌+◌, ◌-◌, ◌≤◌, List, [], ◌∷◌, ◌++◌, Bool, true, false, ◌&&◌, not, ◌==◌, nat_lt, nat_le, Option, Some, None, is_some, is_none, Result, Ok, Err, if◌then◌else◌, length, take, slice_index_or, filter, position, unwrap_or, All, ⊤}
+use Rattle.std.specs.List.{list_any}
+use Rattle.std.specs.Str.{bytes_eq}
+use Rattle.std.specs.Ordering.{is_lt}
+use Rattle.shard_names.specs.Tablets.{alias_eq, alias_cmp, AreTablets}
+use Rattle.shard_names.specs.declared.alias.Alias.{Alias}
+use Rattle.shard_names.specs.declared.shard_name.ShardName.{ShardName}
+use Rattle.shard_names.specs.declared.tablet.Tablet.{Tablet as TabletData}
+use Rattle.shard_core.specs.declared.command.Command.{Command}
+use Rattle.shard_core.specs.declared.command.Command.TheVariants.{Planned, Write}
+use Rattle.shard_script.specs.declared.line.Line.{Line}
+use Rattle.shard_script.specs.declared.line.Line.TheVariants.{Shard, Tablet, Play}
+use Rattle.shard_script.specs.declared.script.Action.{Action}
+use Rattle.shard_script.specs.declared.script.Action.TheVariants as actions
+use Rattle.shard_script.specs.declared.script.Script.{Script}
+use Rattle.shard_script.specs.declared.script.ScriptFault.{ScriptFault}
+use Rattle.shard_script.specs.declared.script.ScriptFault.TheVariants as faults
+use Rattle.shard_script.specs.Lines.{parts_of, line_of}
+
+-- whether a tablet has this alias
+abbrev pub has_alias : List TabletData → Alias → Bool
+has_alias tablets a = list_any (λ t. alias_eq t.alias a) tablets
+
+-- whether a tablet has this server
+abbrev pub has_server : List TabletData → List ℕ → Bool
+has_server tablets server = list_any (λ t. bytes_eq t.server server) tablets
+
+abbrev pub shard_eq : ShardName → ShardName → Bool
+shard_eq a b = bytes_eq a.keyspace b.keyspace && bytes_eq a.shard b.shard
+
+-- whether this is the declared name
+abbrev pub is_shard : Option ShardName → ShardName → Bool
+is_shard None name = false
+is_shard (Some s) name = shard_eq s name
+
+abbrev pub is_planned : Action → Bool
+is_planned (actions.Play (Planned name a) n) = true
+is_planned (actions.Play Write n) = false
+
+-- whether an alias comes before another
+abbrev pub is_below : Alias → Alias → Bool
+is_below a b = is_lt (alias_cmp a b)
+
+-- the place of the first tablet above the alias, or the end
+abbrev pub place_among : List TabletData → Alias → ℕ
+place_among tablets a = unwrap_or (position (λ t. is_below a t.alias) tablets) (length tablets)
+
+-- the tablets with one more, before the first that is above it
+abbrev pub in_place : TabletData → List TabletData → List TabletData
+in_place t [] = t ∷ []
+in_place t (u ∷ us) = if is_below t.alias u.alias then t ∷ u ∷ us else u ∷ in_place t us
+
+-- a tablet stands behind the shard and before the actions, as one of at most 32 that all differ
+abbrev pub admits_tablet : Script → TabletData → Bool
+admits_tablet s t =
+    is_some s.shard && (length s.actions == 0) && nat_lt (length s.tablets) 32 && not (has_alias s.tablets t.alias) && not (has_server s.tablets t.server)
+
+-- a reparent is the first one and of the declared shard, and a write stands behind the shard
+abbrev pub admits_command : Script → Command → Bool
+admits_command s (Planned name a) = is_shard s.shard name && not (list_any is_planned s.actions)
+admits_command s Write = is_some s.shard
+
+-- whether a line may stand behind the script so far
+abbrev pub admits : Script → Line → Bool
+admits s (Shard name) = is_none s.shard
+admits s (Tablet t) = admits_tablet s t
+admits s (Play command n) = admits_command s command
+
+abbrev pub with_line : Script → Line → Script
+with_line s (Shard name) = record s { shard = Some name }
+with_line s (Tablet t) = record s { tablets = in_place t s.tablets }
+with_line s (Play command n) = record s { actions = s.actions ++ actions.Play command n ∷ [] }
+
+abbrev pub empty_script : Script
+empty_script = record { shard = None; tablets = []; actions = [] }
+
+-- the script with one more line, if it may stand there
+unfoldable pub with_bytes : Script → List ℕ → Option Script
+with_bytes s bytes = elim (line_of bytes) [ None ↦ None | Some line ↦ if admits s line then Some (with_line s line) else None ]
+
+-- The script with more lines, of which the first has this place; or the place of the first line that may not stand there. At most 1,000 lines may.
+abbrev pub read_on : ℕ → Script → List (List ℕ) → Result Script ℕ
+read_on place s [] = Ok s
+read_on place s (l ∷ ls) =
+    if nat_lt 1000 place then Err place
+    else elim (with_bytes s l) [ None ↦ Err place | Some t ↦ read_on (place + 1) t ls ]
+
+-- the script that lines spell
+abbrev pub read_lines : List (List ℕ) → Result Script ℕ
+read_lines lines = read_on 1 empty_script lines
+
+abbrev pub without_empty_end : List (List ℕ) → List (List ℕ)
+without_empty_end parts =
+    if length (slice_index_or parts (length parts - 1) []) == 0 then take (length parts - 1) parts else parts
+
+-- the lines of a text: the last may lack its newline
+abbrev pub lines_of : List ℕ → List (List ℕ)
+lines_of text = without_empty_end (parts_of 10 text)
+
+-- the lines of a text that have their newline
+abbrev pub ended_lines : List ℕ → List (List ℕ)
+ended_lines text = take (length (parts_of 10 text) - 1) (parts_of 10 text)
+
+-- as many bytes as a script may have
+unfoldable pub first_bytes : List ℕ → List ℕ
+first_bytes text = take 65536 text
+
+-- the first fault of lines, or else one on the line behind them
+abbrev pub fault_behind : List (List ℕ) → Result Script ℕ → Result Script ℕ
+fault_behind lines (Err place) = Err place
+fault_behind lines (Ok s) = Err (length lines + 1)
+
+-- The script that a text spells, or the first line with a fault. In a text of more than 65,536 bytes that is at the latest the line with the next byte.
+unfoldable pub reading : List ℕ → Result Script ℕ
+reading text =
+    if nat_le (length text) 65536 then read_lines (lines_of text)
+    else fault_behind (ended_lines (first_bytes text)) (read_lines (ended_lines (first_bytes text)))
+
+-- the bytes of a script, and one more where there are too many
+unfoldable pub front : List ℕ → List ℕ
+front bytes = take 65537 bytes
+
+-- the first bytes of a text, one more than a script may have, decide how it is read
+abbrev pub FrontDecides : Type 0
+FrontDecides = (text : List ℕ) → reading text ≡ reading (front text)
+
+-- what a reader returned is this, unless memory ran out
+abbrev pub Gives : Result Script ScriptFault → Result Script ℕ → Type 0
+Gives (Ok s) r = r ≡ Ok s
+Gives (Err (faults.Line place)) r = r ≡ Err place
+Gives (Err faults.OutOfMemory) r = ⊤
+
+-- A write is given 1 to 100 times, and a reparent of the declared shard once.
+abbrev pub FitsShard : Option ShardName → Action → Type 0
+FitsShard shard (actions.Play (Planned name a) n) = (shard ≡ Some name) × (n ≡ 1)
+FitsShard shard (actions.Play Write n) = (1 ≤ n) × (n ≤ 100)
+
+-- what every script that is read keeps to
+pub record Fits (s : Script) : Type 0 where
+  pub tablets : AreTablets s.tablets
+  pub few_tablets : length s.tablets ≤ 32
+  pub named : s.shard ≡ None → (s.tablets ≡ []) × (s.actions ≡ [])
+  pub actions : All (FitsShard s.shard) s.actions
+  pub one_planned : length (filter is_planned s.actions) ≤ 1
+  pub few_actions : length s.actions ≤ 1000

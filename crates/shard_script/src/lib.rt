@@ -1,0 +1,10 @@
+//! The language of shard scripts: how a text is read, and what its grammar says.
+#![tactic(auto)]
+
+mod law;
+mod line;
+mod script;
+
+pub use law::{faults_as_spelled, front_decides, reads_as_spelled};
+pub use line::{Line, read_number};
+pub use script::{Action, Script, ScriptFault, read_text};

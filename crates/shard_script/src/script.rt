@@ -1,0 +1,287 @@
+ghost use Rattle.std.specs.Prelude.{◌≡◌, ◌≤◌, ◌<◌, ◌==◌, map, position, length, IfOk, IfSome, OnOk, Some, None, if◌then◌else◌};
+ghost use Rattle.std.specs.List.{list_any};
+ghost use Rattle.std.specs.Str.{bytes_eq};
+ghost use Rattle.shard_names.specs.Tablets.{alias_eq};
+ghost use Rattle.shard_script.specs.Script.{first_bytes, place_among, has_alias, has_server, shard_eq, is_shard, is_planned, is_below, in_place, admits_tablet, admits_command, admits, with_line, with_bytes, lines_of, ended_lines, read_on, read_lines, reading, Gives, Fits};
+
+use crate::line::{Line, parts_of, read_line};
+use shard_base::{Items, OutOfMemory};
+use shard_core::Command;
+use shard_names::{Alias, ShardName, Tablet};
+use std::alloc::Global;
+use uuid::Uuid;
+
+/// What a script asks for.
+#[derive(Clone, Copy)]
+pub enum Action {
+    /// The command, so many times.
+    Play { command: Command, count: u64 },
+}
+
+/// A shard, its tablets in alias order, and what is done to it.
+#[derive(Drop)]
+pub struct Script {
+    pub shard: Option<ShardName>,
+    pub tablets: Items<Tablet>,
+    pub actions: Items<Action>,
+}
+
+/// Why a text is no script.
+#[derive(Clone, Copy, Debug, PartialEq, Eq)]
+pub enum ScriptFault {
+    /// The first line that may not stand there, from 1.
+    Line(u64),
+    OutOfMemory,
+}
+
+impl From<OutOfMemory> for ScriptFault {
+    ghost use Rattle.std.specs.Prelude.{◌≡◌};
+    ghost use Rattle.shard_script.specs.declared.script.ScriptFault.TheVariants.{OutOfMemory as NoMemory};
+
+    ghost from_gives = { λ _ e. e ≡ NoMemory };
+
+    fn from(_e: OutOfMemory) -> ScriptFault {
+        ScriptFault::OutOfMemory
+    }
+}
+
+fn same_alias(a: &Alias, b: &Alias) -> bool
+    ensures { result ≡ alias_eq a.now b.now }
+{
+    a == b
+}
+
+fn same_server(a: &Uuid, b: &Uuid) -> bool
+    ensures { result ≡ bytes_eq a.now b.now }
+{
+    a == b
+}
+
+fn same_shard(a: &ShardName, b: &ShardName) -> bool
+    ensures { result ≡ shard_eq a.now b.now }
+{
+    a == b
+}
+
+fn is_below(a: &Alias, b: &Alias) -> bool
+    ensures { result ≡ is_below a.now b.now }
+{
+    a < b
+}
+
+fn has_alias(tablets: &[Tablet], alias: &Alias) -> bool
+    ensures { result ≡ has_alias tablets.now alias.now }
+{
+    tablets.iter().any(|t| same_alias(&t.alias, alias))
+}
+
+fn has_server(tablets: &[Tablet], server: &Uuid) -> bool
+    ensures { result ≡ has_server tablets.now server.now }
+{
+    tablets.iter().any(|t| same_server(&t.server, server))
+}
+
+fn is_shard(shard: &Option<ShardName>, name: &ShardName) -> bool
+    ensures { result ≡ is_shard shard.now name.now }
+{
+    match shard {
+        Some(s) => same_shard(s, name),
+        None => false,
+    }
+}
+
+fn is_planned(action: &Action) -> bool
+    ensures { result ≡ is_planned action.now }
+{
+    match action {
+        Action::Play {
+            command: Command::Planned { .. },
+            ..
+        } => true,
+        Action::Play {
+            command: Command::Write,
+            ..
+        } => false,
+    }
+}
+
+fn has_planned(actions: &[Action]) -> bool
+    ensures { result ≡ list_any is_planned actions.now }
+{
+    actions.iter().any(|action| is_planned(action))
+}
+
+/// The most tablets of a script.
+const MOST_TABLETS: usize = 32;
+
+/// The most lines of a script.
+const MOST_LINES: usize = 1000;
+
+/// The most bytes of a script.
+const MOST_BYTES: usize = 65536;
+
+fn admits_tablet(script: &Script, tablet: &Tablet) -> bool
+    ensures { result ≡ admits_tablet script.now tablet.now }
+{
+    script.shard.is_some()
+        && script.actions.is_empty()
+        && script.tablets.len() < MOST_TABLETS
+        && !has_alias(script.tablets.as_slice(), &tablet.alias)
+        && !has_server(script.tablets.as_slice(), &tablet.server)
+}
+
+fn admits_command(script: &Script, command: &Command) -> bool
+    ensures { result ≡ admits_command script.now command.now }
+{
+    match command {
+        Command::Planned { shard, .. } => {
+            is_shard(&script.shard, shard) && !has_planned(script.actions.as_slice())
+        }
+        Command::Write => script.shard.is_some(),
+    }
+}
+
+/// Whether a line may stand behind the script so far.
+fn admits(script: &Script, line: &Line) -> bool
+    ensures { result ≡ admits script.now line.now }
+{
+    match line {
+        Line::Shard { .. } => script.shard.is_none(),
+        Line::Tablet { tablet } => admits_tablet(script, tablet),
+        Line::Play { command, .. } => admits_command(script, command),
+    }
+}
+
+/// The place of the first tablet above the alias.
+fn find_above(tablets: &[Tablet], alias: &Alias) -> Option<usize>
+    ensures value { result ≡ position (λ t. is_below alias.now t.alias) tablets.now }
+    ensures within { IfSome result (λ place. place < length tablets.now) }
+{
+    tablets.iter().position(|t| is_below(alias, &t.alias))
+}
+
+/// The place of the first tablet above the alias, or the end.
+fn place_of(tablets: &[Tablet], alias: &Alias) -> usize
+    ensures within { result ≤ length tablets.now }
+    ensures place { result ≡ place_among tablets.now alias.now }
+{
+    match find_above(tablets, alias) {
+        Some(place) => place,
+        None => tablets.len(),
+    }
+}
+
+/// The tablets with one more, in alias order.
+fn insert_tablet(tablets: Items<Tablet>, tablet: Tablet) -> Result<Items<Tablet>, OutOfMemory>
+    ensures { IfOk result (λ new. new ≡ in_place tablet tablets) }
+{
+    let place = place_of(tablets.as_slice(), &tablet.alias);
+    let mut list = tablets.into_vec();
+    list.insert(place, tablet)?;
+    Ok(Items::from_vec(list))
+}
+
+/// The script with one more line.
+fn with_line(script: Script, line: Line) -> Result<Script, OutOfMemory>
+    ensures { IfOk result (λ new. new ≡ with_line script line) }
+{
+    let Script {
+        mut shard,
+        mut tablets,
+        mut actions,
+    } = script;
+    match line {
+        Line::Shard { name } => shard = Some(name),
+        Line::Tablet { tablet } => tablets = insert_tablet(tablets, tablet)?,
+        Line::Play { command, count } => actions.push(Action::Play { command, count })?,
+    }
+    Ok(Script {
+        shard,
+        tablets,
+        actions,
+    })
+}
+
+/// The script with the line that the bytes spell, if it may stand there.
+#[tactic(auto, unfolding(crate::specs::Script::with_bytes))]
+fn with_bytes(alloc: Global, script: Script, bytes: &[u8]) -> Result<Option<Script>, OutOfMemory>
+    ensures { IfOk result (λ new. new ≡ with_bytes script bytes.now) }
+{
+    match read_line(alloc, bytes)? {
+        Some(line) if admits(&script, &line) => Ok(Some(with_line(script, line)?)),
+        _ => Ok(None),
+    }
+}
+
+/// The lines of a text. The last may lack its newline.
+fn lines_of(alloc: Global, text: &[u8]) -> Result<Vec<&[u8]>, OutOfMemory>
+    ensures { IfOk result (λ lines. map (λ l. l.now) lines.items ≡ lines_of text.now) }
+{
+    let mut lines = parts_of(alloc, text, b'\n')?;
+    let count = lines.len();
+    if count > 0 && lines[count - 1].is_empty() {
+        lines.truncate(count - 1);
+    }
+    Ok(lines)
+}
+
+/// The lines of a text that have their newline.
+fn ended_lines(alloc: Global, text: &[u8]) -> Result<Vec<&[u8]>, OutOfMemory>
+    ensures { IfOk result (λ lines. map (λ l. l.now) lines.items ≡ ended_lines text.now) }
+{
+    let mut lines = parts_of(alloc, text, b'\n')?;
+    let _rest = lines.pop();
+    Ok(lines)
+}
+
+fn read_lines(alloc: Global, lines: &[&[u8]]) -> Result<Script, ScriptFault>
+    ensures { Gives result (read_lines (map (λ l. l.now) lines.now)) }
+{
+    let mut script = Script {
+        shard: None,
+        tablets: Items::new(alloc),
+        actions: Items::new(alloc),
+    };
+    for (index, bytes) in lines.iter().enumerate() {
+        if index >= MOST_LINES {
+            return Err(ScriptFault::Line(index as u64 + 1));
+        }
+        let Some(next) = with_bytes(alloc, script, bytes)? else {
+            return Err(ScriptFault::Line(index as u64 + 1));
+        };
+        script = next;
+    }
+    Ok(script)
+}
+
+/// As many bytes as a script may have.
+#[tactic(auto, unfolding(crate::specs::Script::first_bytes))]
+fn first_bytes(text: &[u8]) -> &[u8]
+    requires { 65536 ≤ length text.now }
+    ensures { result.now ≡ first_bytes text.now }
+{
+    &text[..MOST_BYTES]
+}
+
+#[tactic(auto, unfolding(crate::specs::Script::reading))]
+fn read_whole(alloc: Global, text: &[u8]) -> Result<Script, ScriptFault>
+    ensures { Gives result (reading text.now) }
+{
+    if text.len() <= MOST_BYTES {
+        let lines = lines_of(alloc, text)?;
+        return read_lines(alloc, &lines);
+    }
+    let lines = ended_lines(alloc, first_bytes(text))?;
+    match read_lines(alloc, &lines) {
+        Ok(_) => Err(ScriptFault::Line(lines.len() as u64 + 1)),
+        Err(fault) => Err(fault),
+    }
+}
+
+/// The script that a text spells, or the first line that may not stand there.
+pub fn read_text(alloc: Global, text: &[u8]) -> Result<Script, ScriptFault>
+    ensures exact { Gives result (reading text.now) }
+    ensures fits { IfOk result Fits }
+{
+    read_whole(alloc, text)
+}
