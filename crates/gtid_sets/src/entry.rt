@@ -8,6 +8,8 @@ pub enum Kind {
     Write { term: u64, client: u32, number: u64 },
     /// The row of a term: the first entry of the tablet that was promoted in it.
     Row { term: u64, alias: Alias },
+    /// A write at a server that went round the primary, in no term.
+    Local,
 }
 
 /// An entry of a log.
