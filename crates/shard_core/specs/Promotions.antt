@@ -40,6 +40,7 @@ OnePromotion config steps = (i j term : ℕ) (a b : Alias) (before others : List
 abbrev pub IsWriteOf : ℕ → Kind → Type 0
 IsWriteOf term (kinds.Write t client number) = t ≡ term
 IsWriteOf term (kinds.Row t a) = ⊥
+IsWriteOf term kinds.Local = ⊥
 
 -- the tablet at which an answer tells an entry as committed
 abbrev pub told_at : CommandAnswer → Option Alias

@@ -11,9 +11,8 @@ use Rattle.shard_core.specs.Kept.{IsSafe}
 use Rattle.shard_core.proofs.SafeLemmas.{run_is_safe}
 use Rattle.shard_core.specs.declared.event.Step.{Step}
 use Rattle.shard_script.specs.declared.script.Script.{Script}
-use Rattle.shard_script.specs.Script.{Fits, reading}
+use Rattle.shard_script.specs.Script.{Fits, reading, front}
 use Rattle.shard_top.specs.Played.{played}
-use Rattle.shard_script.specs.Script.{front}
 use Rattle.shard_top.specs.Streams.{AppendsFront, WasRead}
 use Rattle.shard_top.specs.Program.{Answer, Answers, answer_to, answer_by, answer_to_reading, answer_to_script}
 use Rattle.shard_top.specs.Words.{usage_fault}
