@@ -1,0 +1,23 @@
+use Rattle.std.proofs.Common.{◌≡◌, ◌∙◌, ap, subst, max, get_or, set, true, ℕ, List}
+use Rattle.std.proofs.lemmas.List.{with_items_is}
+use Rattle.shard_names.specs.declared.alias.Alias.{Alias}
+use Rattle.shard_names.specs.Tablets.{is_among}
+use Rattle.tablet_manager.specs.Acked.{Acks, acked_of, IsAt, IsNowhere}
+use Rattle.tablet_manager.proofs.AckLemmas.{somewhere, acked-raised}
+use Rattle.tablet_manager.proofs.acks.AckList.raise.Goals as goal
+
+pub unreachable-requires : goal.unreachable-requires
+unreachable-requires c =
+    let none : IsNowhere c.self.inside.aliases.items c.args.from.now = subst (λ (xs : List Alias). IsNowhere xs c.args.from.now) c.as_slice.ensures.value c.in-None.ensures in
+    let among : is_among c.self.inside.aliases.items c.args.from.now ≡ true = ap (λ (k : Acks). is_among k.aliases c.args.from.now) c.self.view_is ∙ c.requires in
+    somewhere c.self.inside.aliases.items c.args.from.now none among
+
+pub returns-clause-acked : goal.returns-clause-acked
+returns-clause-acked c =
+    let at : IsAt c.self.inside.aliases.items c.args.from.now c.in-Some.at = subst (λ (xs : List Alias). IsAt xs c.args.from.now c.in-Some.at) c.as_slice.ensures.value c.in-Some.ensures.1 in
+    rw (← c.self.view_is) (λ i a.
+    (ap (λ (is : List ℕ). acked_of c.self.inside.aliases.items is a)
+    (with_items_is c.self.inside.indexes c.raise_at.new.indexes (c.raise_at.ensures.len ∙ c.as_mut_slice.ensures.len)
+    ∙ c.raise_at.ensures.raised
+    ∙ ap (λ (is : List ℕ). set is c.in-Some.at (max (get_or is c.in-Some.at 0) c.args.index)) c.as_mut_slice.ensures.value)
+    ∙ acked-raised c.self.inside.aliases.items c.self.inside.indexes.items c.args.from.now c.in-Some.at c.args.index a c.self.invariant at) i)

@@ -1,0 +1,12 @@
+-- What a plain log keeps beside its entries: their position, and the term of the newest row.
+use Rattle.std.specs.Prelude.{◌≡◌}
+use Rattle.shard_calls.specs.Logs.{position_of, newest_row}
+use Rattle.tablet_manager.specs.LogState.{LogState}
+use Rattle.tablet_manager.specs.declared.plain_log.PlainLog.TheInside.{Inside}
+
+abbrev pub state_of : Inside → LogState
+state_of a = record { entries = a.entries.items; seen = a.seen; promised = a.promised }
+
+pub record IsKept (a : Inside) : Type 0 where
+  pub held : a.held ≡ position_of a.entries.items
+  pub newest : a.newest ≡ newest_row a.entries.items

@@ -1,0 +1,10 @@
+//! One tablet of a shard: its log, what it has promised, what it does, and what others acknowledged to it.
+#![tactic(auto)]
+
+mod acks;
+mod manager;
+mod plain_log;
+
+pub use manager::Manager;
+pub use plain_log::PlainLog;
+pub use shard_calls::{Accepted, Restarted, Written};

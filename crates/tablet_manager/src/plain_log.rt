@@ -1,0 +1,201 @@
+ghost use Rattle.std.specs.Prelude.{◌≡◌, ◌<◌, [], ◌∷◌, ◌++◌, vec_len, vec_capacity, OnOk, OnErr, IfOk};
+ghost use Rattle.gtid_sets.specs.Position.{with_gtid, minus};
+ghost use Rattle.shard_calls.specs.Logs.{position_of, holds, newest_row, row_or_zero, is_row_of, has_row};
+ghost use Rattle.std.specs.List.{list_any};
+
+use gtid_sets::{Entry, Gtid, GtidSet, Kind, minus};
+use shard_base::OutOfMemory;
+use std::alloc::Global;
+use std::marker::Model;
+
+/// A tablet's log and terms, kept in memory alone. Its position and the term of its newest row are kept beside the entries.
+#[derive(Drop)]
+pub struct PlainLog {
+    entries: Vec<Entry>,
+    held: GtidSet,
+    seen: u64,
+    promised: u64,
+    newest: u64,
+}
+
+impl Model for PlainLog {
+    ghost use Rattle.tablet_manager.specs.LogState.{LogState};
+
+    ghost Value = { LogState };
+
+    ghost use Rattle.tablet_manager.specs.PlainLog.{state_of, IsKept};
+
+    ghost view = { state_of };
+
+    ghost invariant = { IsKept };
+}
+
+/// The term of a row, and 0 of any other entry.
+fn row_or_zero(entry: &Entry) -> u64
+    ensures { result ≡ row_or_zero entry.now }
+{
+    match &entry.kind {
+        Kind::Write { .. } => 0,
+        Kind::Row { term, .. } => *term,
+        Kind::Local => 0,
+    }
+}
+
+fn is_row_of(term: u64, entry: &Entry) -> bool
+    ensures { result ≡ is_row_of term entry.now }
+{
+    match &entry.kind {
+        Kind::Write { .. } => false,
+        Kind::Row { term: of, .. } => *of == term,
+        Kind::Local => false,
+    }
+}
+
+/// Whether one of the entries is the row of the term.
+fn any_row_of(entries: &[Entry], term: u64) -> bool
+    ensures { result ≡ list_any (is_row_of term) entries.now }
+{
+    entries.iter().any(|entry| is_row_of(term, entry))
+}
+
+fn push_entry(entries: &mut Vec<Entry>, entry: &Entry)
+    requires { vec_len entries.old < vec_capacity entries.old }
+    ensures { entries.new.items ≡ entries.old.items ++ entry.now ∷ [] }
+{
+    let Entry { gtid, kind } = entry;
+    entries.push_reserved(Entry {
+        gtid: *gtid,
+        kind: *kind,
+    });
+}
+
+/// Puts an entry at the end, and its transaction into the set. Want of memory leaves both as they were.
+fn append_to(entries: &mut Vec<Entry>, held: &mut GtidSet, entry: &Entry) -> Result<(), OutOfMemory>
+    ensures ok_entries { OnOk result (entries.new.items ≡ entries.old.items ++ entry.now ∷ []) }
+    ensures ok_held { OnOk result (held.new ≡ with_gtid held.old entry.now.gtid) }
+    ensures err_entries { OnErr result (entries.new.items ≡ entries.old.items) }
+    ensures err_held { OnErr result (held.new ≡ held.old) }
+{
+    entries.reserve(1)?;
+    held.add(entry.gtid)?;
+    push_entry(entries, entry);
+    Ok(())
+}
+
+impl PlainLog {
+    /// An empty log, with no term seen or promised. It takes no memory.
+    pub fn new(alloc: Global) -> PlainLog
+        ensures { result ≡ record { entries = []; seen = 0; promised = 0 } }
+    {
+        PlainLog {
+            entries: Vec::new(alloc),
+            held: GtidSet::empty(alloc),
+            seen: 0,
+            promised: 0,
+            newest: 0,
+        }
+    }
+
+    /// The entries, the first one first.
+    pub fn entries(&self) -> &[Entry]
+        ensures { result.now ≡ self.now.entries }
+    {
+        self.entries.as_slice()
+    }
+
+    /// The position of the log.
+    pub fn held(&self) -> &GtidSet
+        ensures { result.now ≡ position_of self.now.entries }
+    {
+        &self.held
+    }
+
+    /// The greatest term of a call that was not refused as stale.
+    pub fn seen(&self) -> u64
+        ensures { result ≡ self.now.seen }
+    {
+        self.seen
+    }
+
+    /// The term below which nothing more is accepted.
+    pub fn promised(&self) -> u64
+        ensures { result ≡ self.now.promised }
+    {
+        self.promised
+    }
+
+    /// The greatest term of a row in the log, or 0.
+    pub fn newest_row(&self) -> u64
+        ensures { result ≡ newest_row self.now.entries }
+    {
+        self.newest
+    }
+
+    /// Whether the log has the transaction.
+    pub(crate) fn holds(&self, gtid: Gtid) -> bool
+        ensures { result ≡ holds self.now.entries gtid }
+    {
+        self.held.contains(gtid)
+    }
+
+    /// Whether the log has the row of the term. It looks through the entries only for a term below that of the newest row, which
+    /// no call that is not stale has.
+    pub fn has_row(&self, term: u64) -> bool
+        ensures { result ≡ has_row self.now.entries term }
+    {
+        if term > self.newest {
+            return false;
+        }
+        if term == self.newest && term > 0 {
+            return true;
+        }
+        any_row_of(self.entries.as_slice(), term)
+    }
+
+    /// The transactions of a position that the log has not.
+    pub(crate) fn missing_of(&self, position: &GtidSet) -> Result<GtidSet, OutOfMemory>
+        ensures { IfOk result (λ missing. missing ≡ minus position.now (position_of self.now.entries)) }
+    {
+        minus(*self.entries.allocator(), position, &self.held)
+    }
+
+    /// The transactions of the log that a position has not.
+    pub(crate) fn beyond(&self, position: &GtidSet) -> Result<GtidSet, OutOfMemory>
+        ensures { IfOk result (λ extra. extra ≡ minus (position_of self.now.entries) position.now) }
+    {
+        minus(*self.entries.allocator(), &self.held, position)
+    }
+
+    /// The position of the log with one transaction more.
+    pub(crate) fn held_with(&self, entry: &Entry) -> Result<GtidSet, OutOfMemory>
+        ensures { IfOk result (λ position. position ≡ position_of (self.now.entries ++ entry.now ∷ [])) }
+    {
+        let mut position = self.held.copy()?;
+        position.add(entry.gtid)?;
+        Ok(position)
+    }
+
+    /// Puts an entry at the end. Want of memory leaves the log as it was.
+    pub(crate) fn append(&mut self, entry: &Entry) -> Result<(), OutOfMemory>
+        ensures ok { OnOk result (self.new ≡ record self.old { entries = self.old.entries ++ entry.now ∷ [] }) }
+        ensures err { OnErr result (self.new ≡ self.old) }
+    {
+        append_to(&mut self.entries, &mut self.held, entry)?;
+        self.newest = self.newest.max(row_or_zero(entry));
+        Ok(())
+    }
+
+    /// Keeps a seen term.
+    pub(crate) fn see(&mut self, term: u64)
+        ensures { self.new ≡ record self.old { seen = term } }
+    {
+        self.seen = term;
+    }
+
+    /// Keeps a promise.
+    pub(crate) fn promise(&mut self, term: u64)
+        ensures { self.new ≡ record self.old { promised = term } }
+    {
+        self.promised = term;
+    }
+}
