@@ -86,6 +86,13 @@ impl AckList {
         Ok(AckList { aliases, indexes })
     }
 
+    /// The tablets.
+    pub fn aliases(&self) -> &[Alias]
+        ensures { result.now ≡ self.now.aliases }
+    {
+        self.aliases.as_slice()
+    }
+
     /// Forgets what was acknowledged. It takes no memory.
     pub fn clear(&mut self)
         ensures aliases { self.new.aliases ≡ self.old.aliases }

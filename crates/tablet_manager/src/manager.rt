@@ -1,4 +1,4 @@
-ghost use Rattle.std.specs.Prelude.{◌≡◌, ℕ, ◌≤◌, ◌<◌, ◌+◌, ◌-◌, ◌^◌, [], ◌∷◌, ◌++◌, Bool, true, false, map, OnOk, OnErr, IfOk, Ok};
+ghost use Rattle.std.specs.Prelude.{◌≡◌, ℕ, ◌≤◌, ◌<◌, ◌+◌, ◌-◌, ◌^◌, [], ◌∷◌, ◌++◌, Bool, true, false, map, OnOk, OnErr, IfOk, Ok, nat_lt};
 ghost use Rattle.shard_names.specs.Tablets.{alias_eq, is_among};
 ghost use Rattle.gtid_sets.specs.declared.entry.Kind.TheVariants as kinds;
 ghost use Rattle.shard_calls.specs.declared.call.Call.TheVariants as calls;
@@ -103,6 +103,27 @@ impl Manager {
         })
     }
 
+    /// Which tablet it is.
+    pub fn me(&self) -> &Tablet
+        ensures { result.now ≡ self.now.me }
+    {
+        &self.me
+    }
+
+    /// The tablets that may acknowledge to it.
+    pub fn ackers(&self) -> &[Alias]
+        ensures { result.now ≡ ackers_of self.now }
+    {
+        self.acks.aliases()
+    }
+
+    /// The greatest number of the tablet's own server in its log, or 0. Its next write has the number behind it.
+    pub fn last_number(&self) -> u64
+        ensures { result ≡ greatest_number self.now.me.server self.now.log.entries }
+    {
+        self.greatest
+    }
+
     /// The log and the terms.
     pub fn log(&self) -> &PlainLog
         ensures { result.now ≡ self.now.log }
@@ -165,6 +186,13 @@ impl Manager {
         Entry { gtid, kind }
     }
 
+    /// Whether a call of this term is refused as stale.
+    fn is_stale(&self, term: u64) -> bool
+        ensures { result ≡ nat_lt term self.now.log.seen }
+    {
+        term < self.log.seen()
+    }
+
     /// Tells how the tablet stands. Unlike every other call it is answered in each term, and it changes nothing.
     pub fn status(&self) -> Result<Answer, OutOfMemory>
         requires up { is_down self.now.stand ≡ false }
@@ -188,9 +216,10 @@ impl Manager {
         ensures who { SameTablet self.old self.new }
         ensures err { OnErr result (self.new ≡ self.old) }
     {
-        let seen = self.log.seen();
-        if term < seen {
-            return Ok(Answer::StaleTerm { seen });
+        if self.is_stale(term) {
+            return Ok(Answer::StaleTerm {
+                seen: self.log.seen(),
+            });
         }
         let newest = self.log.newest_row();
         let position = self.log.held().copy()?;
@@ -210,9 +239,10 @@ impl Manager {
         ensures who { SameTablet self.old self.new }
         ensures err { OnErr result (self.new ≡ self.old) }
     {
-        let seen = self.log.seen();
-        if term < seen {
-            return Ok(Answer::StaleTerm { seen });
+        if self.is_stale(term) {
+            return Ok(Answer::StaleTerm {
+                seen: self.log.seen(),
+            });
         }
         let newest = self.log.newest_row();
         if self.log.promised() == term {
@@ -264,9 +294,10 @@ impl Manager {
         ensures who { SameTablet self.old self.new }
         ensures err { OnErr result (self.new ≡ self.old) }
     {
-        let seen = self.log.seen();
-        if term < seen {
-            return Ok(Answer::StaleTerm { seen });
+        if self.is_stale(term) {
+            return Ok(Answer::StaleTerm {
+                seen: self.log.seen(),
+            });
         }
         if self.log.has_row(term) {
             return self.tell_standing(term);
@@ -311,9 +342,10 @@ impl Manager {
         ensures who { SameTablet self.old self.new }
         ensures err { OnErr result (self.new ≡ self.old) }
     {
-        let seen = self.log.seen();
-        if term < seen {
-            return Ok(Answer::StaleTerm { seen });
+        if self.is_stale(term) {
+            return Ok(Answer::StaleTerm {
+                seen: self.log.seen(),
+            });
         }
         let promised = self.log.promised();
         if stand < promised {
@@ -347,9 +379,10 @@ impl Manager {
         ensures who { SameTablet self.old self.new }
         ensures err { OnErr result (self.new ≡ self.old) }
     {
-        let seen = self.log.seen();
-        if term < seen {
-            return Ok(Answer::StaleTerm { seen });
+        if self.is_stale(term) {
+            return Ok(Answer::StaleTerm {
+                seen: self.log.seen(),
+            });
         }
         self.log.see(term);
         if !self.stand.is_primary_of(term) {
@@ -460,7 +493,7 @@ impl Manager {
             return Ok(Restarted::WasUp);
         }
         self.stand = Stand::Stopped;
-        self.acks.clear();
+        self.acks.clear(); // what comes up knows of none
         Ok(Restarted::Up)
     }
 }
