@@ -4,6 +4,8 @@
 mod acks;
 mod manager;
 mod plain_log;
+#[cfg(test)]
+mod tests;
 
 pub use manager::Manager;
 pub use plain_log::PlainLog;
