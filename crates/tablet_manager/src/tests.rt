@@ -2,8 +2,8 @@ ghost use Rattle.std.specs.Prelude.{◌≡◌, map};
 ghost use Rattle.std.specs.List.{list_any};
 ghost use Rattle.shard_names.specs.Tablets.{alias_eq, is_among};
 
-use crate::{Manager, Written};
-use gtid_sets::GtidSet;
+use crate::{Accepted, Manager, Written};
+use gtid_sets::{Entry, Gtid, GtidSet, Kind};
 use shard_base::OutOfMemory;
 use shard_calls::Answer;
 use shard_names::{Alias, Tablet, TabletType};
@@ -80,5 +80,48 @@ fn promotes_and_writes(rt: HostRuntime) -> Result<(), Fail> {
     promote(&rt, &mut primary, 1, &GtidSet::empty(alloc))?;
     let written = write(&rt, &mut primary, 1)?;
     assert!(rt; is_written(&written, 0, 2));
+    Ok(())
+}
+
+fn row_of(source: &Alias) -> Entry {
+    Entry {
+        gtid: Gtid {
+            server: server(0),
+            number: 1,
+        },
+        kind: Kind::Row {
+            term: 1,
+            alias: *source,
+        },
+    }
+}
+
+fn follow(
+    rt: &impl Abort,
+    manager: &mut Manager,
+    source: &Alias,
+    position: &GtidSet,
+) -> Result<Answer, OutOfMemory> {
+    assert!(rt; !manager.stand().is_down());
+    assert!(rt; *source != manager.me().alias);
+    manager.set_source(1, source, 1, position)
+}
+
+fn stop(rt: &impl Abort, manager: &mut Manager, term: u64) -> Result<Answer, OutOfMemory> {
+    assert!(rt; !manager.stand().is_down());
+    manager.stop(term)
+}
+
+#[test]
+fn follows_until_it_stops(rt: HostRuntime) -> Result<(), Fail> {
+    let alloc = rt.alloc();
+    let tablets = [tablet(&rt, b"zone1-100", 0), tablet(&rt, b"zone1-101", 1)];
+    let source = &tablets[0].alias;
+    let mut replica = manager(&rt, alloc, &tablets, 1)?;
+    follow(&rt, &mut replica, source, &GtidSet::empty(alloc))?;
+    let row = row_of(source);
+    assert_eq!(rt; replica.accept(source, 1, 1, 1, &row)?, Accepted::Taken);
+    stop(&rt, &mut replica, 2)?;
+    assert_eq!(rt; replica.accept(source, 1, 2, 2, &row)?, Accepted::Ignored);
     Ok(())
 }
