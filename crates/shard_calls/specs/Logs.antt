@@ -56,6 +56,16 @@ row_term (kind.Write term client number) = None
 row_term (kind.Row term alias) = Some term
 row_term kind.Local = None
 
+-- the term before others, if there is one
+abbrev pub before_rows : Option ℕ → List ℕ → List ℕ
+before_rows None terms = terms
+before_rows (Some term) terms = term ∷ terms
+
+-- the terms of the rows, in the order of the log
+abbrev pub rows_of : List Entry → List ℕ
+rows_of [] = []
+rows_of (e ∷ log) = before_rows (row_term e.kind) (rows_of log)
+
 abbrev pub is_row_of : ℕ → Entry → Bool
 is_row_of term e = elim (row_term e.kind) [ Some t ↦ t == term | None ↦ false ]
 

@@ -1,5 +1,5 @@
 -- What is kept of the rows of a log beside it.
-use Rattle.std.proofs.Common.{◌≡◌, ℕ, ◌≤◌, ◌<◌, max, Bool, true, false, refl, ap, sym, subst, ◌∙◌, arith, List, [], ◌∷◌, ◌++◌, cond, ◌||◌, ◌&&◌, nat_lt, ◌==◌, Option, Some, None, unwrap_or}
+use Rattle.std.proofs.Common.{◌≡◌, ℕ, ◌≤◌, ◌<◌, max, Bool, true, false, refl, ap, sym, subst, ◌∙◌, arith, List, [], ◌∷◌, ◌++◌, cond, ◌||◌, ◌&&◌, nat_lt, nat_eq, ◌==◌, Option, Some, None, unwrap_or}
 use Rattle.std.specs.List.{list_any}
 use Rattle.std.proofs.lemmas.Bool.Decides.{nat_tests}
 use Rattle.shard_names.specs.declared.alias.Alias.{Alias}
@@ -8,9 +8,27 @@ use Rattle.gtid_sets.specs.declared.gtid.Gtid.{Gtid}
 use Rattle.gtid_sets.specs.declared.entry.Entry.{Entry}
 use Rattle.gtid_sets.specs.declared.entry.Kind.{Kind}
 use Rattle.gtid_sets.specs.declared.entry.Kind.TheVariants as kind
-use Rattle.shard_calls.specs.Logs.{row_term, row_or_zero, is_row_of, has_row, newest_row, is_own_row, is_named, newest_row_names}
+use Rattle.shard_calls.specs.Logs.{row_term, before_rows, rows_of, row_or_zero, is_row_of, has_row, newest_row, is_own_row, is_named, newest_row_names}
 use Rattle.shard_calls.proofs.LogLemmas.{newest-push, any-push}
 use Rattle.tablet_manager.specs.Managed.{names_after}
+
+-- ---- the terms of the rows
+
+before_append : (o : Option ℕ) (xs ys : List ℕ) → before_rows o (xs ++ ys) ≡ before_rows o xs ++ ys
+before_append None xs ys = refl
+before_append (Some t) xs ys = refl
+
+pub rows-push : (log : List Entry) (e : Entry) → rows_of (log ++ e ∷ []) ≡ rows_of log ++ rows_of (e ∷ [])
+rows-push [] e = refl
+rows-push (x ∷ log) e = ap (λ (ts : List ℕ). before_rows (row_term x.kind) ts) (rows-push log e) ∙ before_append (row_term x.kind) (rows_of log) (rows_of (e ∷ []))
+
+any_before : (o : Option ℕ) (ts : List ℕ) (term : ℕ) → list_any (λ t. nat_eq t term) (before_rows o ts) ≡ ((elim o as (λ _. Bool) [ Some t ↦ t == term | None ↦ false ]) || list_any (λ t. nat_eq t term) ts)
+any_before None ts term = refl
+any_before (Some t) ts term = refl
+
+pub any_rows : (log : List Entry) (term : ℕ) → list_any (λ t. nat_eq t term) (rows_of log) ≡ has_row log term
+any_rows [] term = refl
+any_rows (e ∷ log) term = any_before (row_term e.kind) (rows_of log) term ∙ ap (λ (b : Bool). is_row_of term e || b) (any_rows log term)
 
 -- the test of one entry's row, by its term
 by_term : (o : Option ℕ) (term : ℕ) → unwrap_or o 0 < term → (elim o as (λ _. Bool) [ Some t ↦ t == term | None ↦ false ]) ≡ false
@@ -19,30 +37,6 @@ by_term (Some t) term above = grind (arith, nat_tests)
 
 not_row : (e : Entry) (term : ℕ) → row_or_zero e < term → is_row_of term e ≡ false
 not_row e term above = by_term (row_term e.kind) term above
-
--- no row is above the newest
-pub none_above : (log : List Entry) (term : ℕ) → newest_row log < term → has_row log term ≡ false
-none_above [] term above = refl
-none_above (e ∷ log) term above =
-    let first : is_row_of term e ≡ false = not_row e term (let low : row_or_zero e < term = grind arith in low) in
-    rw first (none_above log term (let low : newest_row log < term = grind arith in low))
-
-is_row : (o : Option ℕ) (term : ℕ) → 0 < term → unwrap_or o 0 ≡ term → (elim o as (λ _. Bool) [ Some t ↦ t == term | None ↦ false ]) ≡ true
-is_row None term some is = absurd (omega arith)
-is_row (Some t) term some is = grind (arith, nat_tests)
-
-or_true : (a b : Bool) → b ≡ true → (a || b) ≡ true
-or_true true b h = refl
-or_true false b h = h
-
--- the newest row is there
-pub newest_is_there : (log : List Entry) (term : ℕ) → 0 < term → term ≡ newest_row log → has_row log term ≡ true
-newest_is_there [] term some is = absurd (omega arith)
-newest_is_there (e ∷ log) term some is =
-    elim (nat_lt (newest_row log) term) as (λ b. nat_lt (newest_row log) term ≡ b → (is_row_of term e || has_row log term) ≡ true) [
-      | true ↦ λ above. let here : is_row_of term e ≡ true = is_row (row_term e.kind) term some (let same : unwrap_or (row_term e.kind) 0 ≡ term = grind (arith, nat_tests) in same) in rw here refl
-      | false ↦ λ low. or_true (is_row_of term e) (has_row log term) (newest_is_there log term some (let same : term ≡ newest_row log = grind (arith, nat_tests) in same))
-    ] refl
 
 and_false : (a b : Bool) → a ≡ false → (a && b) ≡ false
 and_false true b h = absurd (cc)

@@ -1,6 +1,6 @@
-ghost use Rattle.std.specs.Prelude.{◌≡◌, ◌<◌, [], ◌∷◌, ◌++◌, vec_len, vec_capacity, OnOk, OnErr, IfOk};
+ghost use Rattle.std.specs.Prelude.{◌≡◌, ◌<◌, [], ◌∷◌, ◌++◌, nat_eq, vec_len, vec_capacity, OnOk, OnErr, IfOk};
 ghost use Rattle.gtid_sets.specs.Position.{with_gtid, minus};
-ghost use Rattle.shard_calls.specs.Logs.{position_of, holds, newest_row, row_or_zero, is_row_of, has_row};
+ghost use Rattle.shard_calls.specs.Logs.{position_of, holds, newest_row, row_or_zero, has_row, rows_of};
 ghost use Rattle.std.specs.List.{list_any};
 
 use gtid_sets::{Entry, Gtid, GtidSet, Kind, minus};
@@ -8,11 +8,13 @@ use shard_base::OutOfMemory;
 use std::alloc::Global;
 use std::marker::Model;
 
-/// A tablet's log and terms, kept in memory alone. Its position and the term of its newest row are kept beside the entries.
+/// A tablet's log and terms, kept in memory alone. Its position, and the terms of its rows with the newest of them, are kept beside
+/// the entries.
 #[derive(Drop)]
 pub struct PlainLog {
     entries: Vec<Entry>,
     held: GtidSet,
+    rows: Vec<u64>,
     seen: u64,
     promised: u64,
     newest: u64,
@@ -41,21 +43,23 @@ fn row_or_zero(entry: &Entry) -> u64
     }
 }
 
-fn is_row_of(term: u64, entry: &Entry) -> bool
-    ensures { result ≡ is_row_of term entry.now }
+/// Whether the term is one of these.
+fn is_among(terms: &[u64], term: u64) -> bool
+    ensures { result ≡ list_any (λ t. nat_eq t term) terms.now }
 {
-    match &entry.kind {
-        Kind::Write { .. } => false,
-        Kind::Row { term: of, .. } => *of == term,
-        Kind::Local => false,
-    }
+    terms.iter().any(|of| *of == term)
 }
 
-/// Whether one of the entries is the row of the term.
-fn any_row_of(entries: &[Entry], term: u64) -> bool
-    ensures { result ≡ list_any (is_row_of term) entries.now }
+/// The term of a row is one of the terms; any other entry changes nothing.
+fn push_row(rows: &mut Vec<u64>, entry: &Entry)
+    requires { vec_len rows.old < vec_capacity rows.old }
+    ensures { rows.new.items ≡ rows.old.items ++ rows_of (entry.now ∷ []) }
 {
-    entries.iter().any(|entry| is_row_of(term, entry))
+    match &entry.kind {
+        Kind::Write { .. } => {}
+        Kind::Row { term, .. } => rows.push_reserved(*term),
+        Kind::Local => {}
+    }
 }
 
 fn push_entry(entries: &mut Vec<Entry>, entry: &Entry)
@@ -70,15 +74,24 @@ fn push_entry(entries: &mut Vec<Entry>, entry: &Entry)
 }
 
 /// Puts an entry at the end, and its transaction into the set. Want of memory leaves both as they were.
-fn append_to(entries: &mut Vec<Entry>, held: &mut GtidSet, entry: &Entry) -> Result<(), OutOfMemory>
+fn append_to(
+    entries: &mut Vec<Entry>,
+    held: &mut GtidSet,
+    rows: &mut Vec<u64>,
+    entry: &Entry,
+) -> Result<(), OutOfMemory>
     ensures ok_entries { OnOk result (entries.new.items ≡ entries.old.items ++ entry.now ∷ []) }
     ensures ok_held { OnOk result (held.new ≡ with_gtid held.old entry.now.gtid) }
+    ensures ok_rows { OnOk result (rows.new.items ≡ rows.old.items ++ rows_of (entry.now ∷ [])) }
     ensures err_entries { OnErr result (entries.new.items ≡ entries.old.items) }
     ensures err_held { OnErr result (held.new ≡ held.old) }
+    ensures err_rows { OnErr result (rows.new.items ≡ rows.old.items) }
 {
     entries.reserve(1)?;
+    rows.reserve(1)?;
     held.add(entry.gtid)?;
     push_entry(entries, entry);
+    push_row(rows, entry);
     Ok(())
 }
 
@@ -90,6 +103,7 @@ impl PlainLog {
         PlainLog {
             entries: Vec::new(alloc),
             held: GtidSet::empty(alloc),
+            rows: Vec::new(alloc),
             seen: 0,
             promised: 0,
             newest: 0,
@@ -138,18 +152,11 @@ impl PlainLog {
         self.held.contains(gtid)
     }
 
-    /// Whether the log has the row of the term. It looks through the entries only for a term below that of the newest row, which
-    /// no call that is not stale has.
+    /// Whether the log has the row of the term.
     pub fn has_row(&self, term: u64) -> bool
         ensures { result ≡ has_row self.now.entries term }
     {
-        if term > self.newest {
-            return false;
-        }
-        if term == self.newest && term > 0 {
-            return true;
-        }
-        any_row_of(self.entries.as_slice(), term)
+        is_among(&self.rows, term)
     }
 
     /// The transactions of a position that the log has not.
@@ -180,7 +187,7 @@ impl PlainLog {
         ensures ok { OnOk result (self.new ≡ record self.old { entries = self.old.entries ++ entry.now ∷ [] }) }
         ensures err { OnErr result (self.new ≡ self.old) }
     {
-        append_to(&mut self.entries, &mut self.held, entry)?;
+        append_to(&mut self.entries, &mut self.held, &mut self.rows, entry)?;
         self.newest = self.newest.max(row_or_zero(entry));
         Ok(())
     }

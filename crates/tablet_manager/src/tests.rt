@@ -2,10 +2,10 @@ ghost use Rattle.std.specs.Prelude.{◌≡◌, map};
 ghost use Rattle.std.specs.List.{list_any};
 ghost use Rattle.shard_names.specs.Tablets.{alias_eq, is_among};
 
-use crate::{Accepted, Manager, Written};
-use gtid_sets::{Entry, Gtid, GtidSet, Kind};
+use crate::{Accepted, Manager, Restarted, Written};
+use gtid_sets::{Entry, Gtid, GtidSet, Kind, equal};
 use shard_base::OutOfMemory;
-use shard_calls::Answer;
+use shard_calls::{Answer, Stand};
 use shard_names::{Alias, Tablet, TabletType};
 use std::alloc::Global;
 use std::process::Abort;
@@ -123,5 +123,151 @@ fn follows_until_it_stops(rt: HostRuntime) -> Result<(), Fail> {
     assert_eq!(rt; replica.accept(source, 1, 1, 1, &row)?, Accepted::Taken);
     stop(&rt, &mut replica, 2)?;
     assert_eq!(rt; replica.accept(source, 1, 2, 2, &row)?, Accepted::Ignored);
+    Ok(())
+}
+
+/// The set of the first transaction of the server 0.
+fn first_only(alloc: Global) -> Result<GtidSet, OutOfMemory> {
+    let mut set = GtidSet::empty(alloc);
+    set.add(Gtid {
+        server: server(0),
+        number: 1,
+    })?;
+    Ok(set)
+}
+
+/// The first of the tablets, as the primary of the term 1.
+fn primary(rt: &impl Abort, alloc: Global, tablets: &[Tablet]) -> Result<Manager, OutOfMemory> {
+    let mut primary = manager(rt, alloc, tablets, 0)?;
+    promote(rt, &mut primary, 1, &GtidSet::empty(alloc))?;
+    Ok(primary)
+}
+
+fn demote(rt: &impl Abort, manager: &mut Manager, term: u64) -> Result<Answer, OutOfMemory> {
+    assert!(rt; !manager.stand().is_down());
+    manager.demote(term)
+}
+
+fn is_demoted(answer: &Answer, row: u64, set: &GtidSet) -> bool {
+    match answer {
+        Answer::Demoted { newest, position } => *newest == row && equal(position, set),
+        _ => false,
+    }
+}
+
+#[test]
+fn demotes(rt: HostRuntime) -> Result<(), Fail> {
+    let alloc = rt.alloc();
+    let tablets = [tablet(&rt, b"zone1-100", 0), tablet(&rt, b"zone1-101", 1)];
+    let mut primary = primary(&rt, alloc, &tablets)?;
+    let answer = demote(&rt, &mut primary, 2)?;
+    assert!(rt; is_demoted(&answer, 1, &first_only(alloc)?));
+    assert_eq!(rt; *primary.stand(), Stand::Demoted { term: 1, by: 2 });
+    Ok(())
+}
+
+fn is_acker(ackers: &[Alias], alias: &Alias) -> bool
+    ensures { result ≡ is_among ackers.now alias.now }
+{
+    ackers.iter().any(|acker| *alias == *acker)
+}
+
+fn ack(rt: &impl Abort, manager: &mut Manager, from: &Alias, term: u64, index: u64) {
+    assert!(rt; is_acker(manager.ackers(), from));
+    manager.ack(from, term, index);
+}
+
+fn wait_told(rt: &impl Abort, manager: &mut Manager, term: u64) -> Result<Answer, OutOfMemory> {
+    assert!(rt; !manager.stand().is_down());
+    manager.wait_told(term)
+}
+
+fn is_told(answer: &Answer) -> bool {
+    match answer {
+        Answer::Told => true,
+        _ => false,
+    }
+}
+
+#[test]
+fn tells_what_is_committed(rt: HostRuntime) -> Result<(), Fail> {
+    let alloc = rt.alloc();
+    let tablets = [tablet(&rt, b"zone1-100", 0), tablet(&rt, b"zone1-101", 1)];
+    let mut primary = primary(&rt, alloc, &tablets)?;
+    ack(&rt, &mut primary, &tablets[1].alias, 1, 1);
+    assert!(rt; primary.is_told(1));
+    assert!(rt; is_told(&wait_told(&rt, &mut primary, 1)?));
+    Ok(())
+}
+
+fn status(rt: &impl Abort, manager: &Manager) -> Result<Answer, OutOfMemory> {
+    assert!(rt; !manager.stand().is_down());
+    manager.status()
+}
+
+/// Whether it is the status of a primary that has entered the term and done nothing since.
+fn is_entered(answer: &Answer, of: u64, set: &GtidSet) -> bool {
+    match answer {
+        Answer::Status {
+            seen,
+            promised,
+            stand,
+            newest,
+            position,
+        } => {
+            *seen == of
+                && *promised == of
+                && stand.is_primary_of(of)
+                && *newest == of
+                && equal(position, set)
+        }
+        _ => false,
+    }
+}
+
+#[test]
+fn tells_how_it_stands(rt: HostRuntime) -> Result<(), Fail> {
+    let alloc = rt.alloc();
+    let tablets = [tablet(&rt, b"zone1-100", 0), tablet(&rt, b"zone1-101", 1)];
+    let primary = primary(&rt, alloc, &tablets)?;
+    let answer = status(&rt, &primary)?;
+    assert!(rt; is_entered(&answer, 1, &first_only(alloc)?));
+    Ok(())
+}
+
+fn local_write(rt: &impl Abort, manager: &mut Manager) -> Result<Written, OutOfMemory> {
+    assert!(rt; manager.last_number() < 100);
+    manager.local_write()
+}
+
+fn is_refused_down(written: &Written) -> bool {
+    match written {
+        Written::Entry(_) => false,
+        Written::NotPrimary(stand) => stand.is_down(),
+    }
+}
+
+#[test]
+fn writes_round_the_primary(rt: HostRuntime) -> Result<(), Fail> {
+    let alloc = rt.alloc();
+    let tablets = [tablet(&rt, b"zone1-100", 0), tablet(&rt, b"zone1-101", 1)];
+    let mut replica = manager(&rt, alloc, &tablets, 1)?;
+    let written = local_write(&rt, &mut replica)?;
+    assert!(rt; is_written(&written, 1, 1));
+    replica.crash();
+    let written = local_write(&rt, &mut replica)?;
+    assert!(rt; is_refused_down(&written));
+    Ok(())
+}
+
+#[test]
+fn restarts_stopped(rt: HostRuntime) -> Result<(), Fail> {
+    let alloc = rt.alloc();
+    let tablets = [tablet(&rt, b"zone1-100", 0), tablet(&rt, b"zone1-101", 1)];
+    let mut primary = primary(&rt, alloc, &tablets)?;
+    primary.crash();
+    assert_eq!(rt; primary.restart()?, Restarted::Up);
+    assert_eq!(rt; *primary.stand(), Stand::Stopped);
+    assert_eq!(rt; primary.log().promised(), 1);
     Ok(())
 }
