@@ -14,7 +14,7 @@ use Rattle.shard_core.specs.Table.{after, world_after}
 
 -- the world after the first so many steps
 abbrev pub world_at : Config → List Step → ℕ → World
-world_at config steps i = world_after config opening (take i steps)
+world_at config steps i = world_after config (opening config) (take i steps)
 
 -- an entry that came new into a log, and what stands before it
 pub record IsNewIn (old new : List Entry) (before : List Entry) (e : Entry) : Type 0 where
@@ -63,4 +63,4 @@ EndsAt steps i x = (c : ℕ) × (slice_get steps i ≡ Some (record { event = ev
 -- everything told is in the log of its tablet
 abbrev pub KeepsTold : Config → List Step → Type 0
 KeepsTold config steps = (i : ℕ) (x : CommandAnswer) (a : Alias) → EndsAt steps i x → told_at x ≡ Some a
-    → (e : Entry) × IsToldBy x e × Contains ((world_after config opening steps).tablets a).log e
+    → (e : Entry) × IsToldBy x e × Contains ((world_after config (opening config) steps).tablets a).log e

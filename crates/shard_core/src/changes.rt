@@ -1,22 +1,22 @@
-ghost use Rattle.std.specs.Prelude.{◌≡◌, ◌<◌, ◌≤◌, ◌+◌, ◌-◌, ◌^◌, true, length, OnOk, OnErr, IfSome};
+ghost use Rattle.std.specs.Prelude.{◌≡◌, ◌<◌, ◌-◌, ◌^◌, true, OnOk, OnErr};
 ghost use Rattle.shard_names.specs.Tablets.{is_declared};
-ghost use Rattle.shard_core.specs.Places.{tablets_of, gtid_at, WritesAt, data_of, seen, config_in, Follows, pending_of, IsRecordDeclared, AreCounted};
-ghost use Rattle.shard_core.specs.Table.{meets, answer, noted, writes_with};
+ghost use Rattle.shard_core.specs.Places.{tablets_of, gtid_at, WritesAt, data_of, seen, config_in, Becomes, Wrote, AreCounted, AreFew};
+ghost use Rattle.shard_core.specs.Table.{meets, recorded_term, kind_of};
 ghost use Rattle.shard_core.specs.declared.event.Event.TheVariants as events;
 
-use crate::conditions::FIRST_TERM;
+use crate::acts::{act, close, forget_act, note_written, set_ended, set_term};
+use crate::beginning::begin;
+use crate::commands::{open_command, term_of};
 use crate::places::{find_place, write_next};
-use crate::world::{Fields, Opened, Place};
-use crate::{Command, CommandAnswer, Event, Reply};
+use crate::world::{CommandState, Fields, Place};
+use crate::{CommandAnswer, Event, Step};
 use gtid_sets::{Gtid, Kind};
 use shard_base::OutOfMemory;
 use shard_names::Alias;
-
-/// The client whose writes need no name.
-const FIRST_CLIENT: u32 = 0;
+use topo_lock::{Holder, Record};
 
 /// The tablet's next own transaction.
-fn own_gtid(places: &[Place], alias: &Alias) -> Gtid
+pub(crate) fn own_gtid(places: &[Place], alias: &Alias) -> Gtid
     requires declared { is_declared (tablets_of places.now) alias.now ≡ true }
     requires counted { AreCounted (2 ^ 64 - 2) places.now }
     ensures { result ≡ gtid_at places.now alias.now }
@@ -43,142 +43,220 @@ fn write_at(places: &mut Vec<Place>, alias: &Alias, kind: Kind) -> Result<(), Ou
     }
 }
 
-fn writes_with(writes: u64, command: &Command) -> u64
-    requires { writes < 2 ^ 64 - 1 }
-    ensures { result ≡ writes_with writes command.now }
+/// The command keeps the step, and nothing else changes.
+fn read(fields: &mut Fields, command: u64, step: &Step) -> Result<(), OutOfMemory>
+    ensures ok { OnOk result (Becomes (data_of fields.old) (data_of fields.new) step.now (events.Read command)) }
+    ensures err { OnErr result (data_of fields.new ≡ data_of fields.old) }
 {
-    match command {
-        Command::Planned { .. } => writes,
-        Command::Write => writes + 1,
+    act(&mut fields.commands, command, step)
+}
+
+/// Takes the lock, unless it is held.
+fn take(fields: &mut Fields, command: u64, step: &Step) -> Result<(), OutOfMemory>
+    requires term { fields.old.topo.topology.term < 2 ^ 64 - 1 }
+    ensures ok { OnOk result (Becomes (data_of fields.old) (data_of fields.new) step.now (events.Take command)) }
+    ensures err { OnErr result (data_of fields.new ≡ data_of fields.old) }
+{
+    let actor = match open_command(&fields.commands, command) {
+        Some(state) => state.actor,
+        None => return Ok(()),
+    };
+    act(&mut fields.commands, command, step)?;
+    let taken = fields.topo.take(Holder { command, actor });
+    set_term(&mut fields.commands, command, taken.ok());
+    Ok(())
+}
+
+/// Intends the tablet in the command's term.
+fn intend(fields: &mut Fields, command: u64, alias: &Alias, step: &Step) -> Result<(), OutOfMemory>
+    ensures ok { OnOk result (Becomes (data_of fields.old) (data_of fields.new) step.now (events.Intend command alias.now)) }
+    ensures err { OnErr result (data_of fields.new ≡ data_of fields.old) }
+{
+    let term = term_of(&fields.commands, command);
+    fields.topo.reserve()?;
+    act(&mut fields.commands, command, step)?;
+    if let Some(term) = term {
+        let _answered = fields.topo.intend(term, alias);
+    }
+    Ok(())
+}
+
+/// Records the tablet as the primary.
+fn set_record(
+    fields: &mut Fields,
+    command: u64,
+    alias: &Alias,
+    step: &Step,
+) -> Result<(), OutOfMemory>
+    requires met { meets (config_in (data_of fields.old)) (seen (data_of fields.old)) (events.Record command alias.now) ≡ true }
+    ensures ok { OnOk result (Becomes (data_of fields.old) (data_of fields.new) step.now (events.Record command alias.now)) }
+    ensures err { OnErr result (data_of fields.new ≡ data_of fields.old) }
+{
+    let term = term_of(&fields.commands, command);
+    act(&mut fields.commands, command, step)?;
+    if let Some(term) = term {
+        let now = fields.clock;
+        let _answered = fields.topo.set_record(term, alias, now);
+    }
+    Ok(())
+}
+
+/// Frees the lock, if the command holds it.
+fn release(fields: &mut Fields, command: u64, step: &Step)
+    ensures { Becomes (data_of fields.old) (data_of fields.new) step.now (events.Release command) }
+{
+    let _made = step;
+    if let Some(term) = term_of(&fields.commands, command) {
+        fields.topo.release(term);
     }
 }
 
-/// Opens a command, and counts it.
-fn begin(fields: &mut Fields, command: &Command)
-    requires begun { fields.old.begun < 2 ^ 64 - 1 }
-    requires writes { fields.old.writes < 2 ^ 64 - 1 }
-    ensures { Follows (data_of fields.old) (data_of fields.new) (events.Begin command.now) }
-{
-    fields.begun += 1;
-    fields.writes = writes_with(fields.writes, command);
-    fields.pending = Some(Opened {
-        number: fields.begun,
-        command: *command,
-        wrote: None,
-    });
-}
-
-/// The open command has written this.
-fn note_written(pending: &mut Option<Opened>, gtid: &Gtid)
-    ensures { pending_of pending.new ≡ noted (pending_of pending.old) gtid.now }
-{
-    if let Some(opened) = pending {
-        opened.wrote = Some(*gtid);
-    }
-}
-
-/// Writes the row of the first term at the tablet, and records it.
-fn promote(fields: &mut Fields, command: u64, alias: &Alias) -> Result<(), OutOfMemory>
+/// The tablet writes an entry of this kind, which the command keeps with its step.
+fn write(
+    fields: &mut Fields,
+    command: u64,
+    alias: &Alias,
+    kind: Kind,
+    step: &Step,
+) -> Result<(), OutOfMemory>
     requires declared { is_declared (tablets_of fields.old.places.items) alias.now ≡ true }
     requires counted { AreCounted (2 ^ 64 - 2) fields.old.places.items }
-    ensures ok { OnOk result (Follows (data_of fields.old) (data_of fields.new) (events.Promote command alias.now)) }
+    ensures ok { OnOk result (Wrote (data_of fields.old) (data_of fields.new) command alias.now kind step.now) }
     ensures err { OnErr result (data_of fields.new ≡ data_of fields.old) }
 {
     let gtid = own_gtid(&fields.places, alias);
+    act(&mut fields.commands, command, step)?;
+    match write_at(&mut fields.places, alias, kind) {
+        Ok(()) => {
+            note_written(&mut fields.commands, command, &gtid);
+            Ok(())
+        }
+        Err(OutOfMemory) => {
+            forget_act(&mut fields.commands, command);
+            Err(OutOfMemory)
+        }
+    }
+}
+
+/// The tablet writes the row of the command's term.
+fn promote(fields: &mut Fields, command: u64, alias: &Alias, step: &Step) -> Result<(), OutOfMemory>
+    requires declared { is_declared (tablets_of fields.old.places.items) alias.now ≡ true }
+    requires counted { AreCounted (2 ^ 64 - 2) fields.old.places.items }
+    ensures ok { OnOk result (Becomes (data_of fields.old) (data_of fields.new) step.now (events.Promote command alias.now)) }
+    ensures err { OnErr result (data_of fields.new ≡ data_of fields.old) }
+{
+    let Some(term) = term_of(&fields.commands, command) else {
+        return Ok(());
+    };
     let kind = Kind::Row {
-        term: FIRST_TERM,
+        term,
         alias: *alias,
     };
-    write_at(&mut fields.places, alias, kind)?;
-    note_written(&mut fields.pending, &gtid);
-    fields.recorded = Some(*alias);
+    write(fields, command, alias, kind, step)?;
+    fields.promoted = true;
     Ok(())
 }
 
-/// The tablet writes the entry of the open write.
-fn write_entry(fields: &mut Fields, alias: &Alias, command: u64) -> Result<(), OutOfMemory>
-    requires recorded { fields.old.recorded ≡ Some alias.now }
+fn recorded_term(primary: &Option<Record>) -> u64
+    ensures { result ≡ recorded_term primary.now }
+{
+    match primary {
+        Some(record) => record.term,
+        None => 0,
+    }
+}
+
+/// The kind of a command's write.
+fn kind_of(state: &CommandState) -> Kind
+    ensures { result ≡ kind_of state.now }
+{
+    Kind::Write {
+        term: recorded_term(&state.primary),
+        client: state.client,
+        number: state.number,
+    }
+}
+
+/// The tablet writes the command's entry.
+fn write_entry(
+    fields: &mut Fields,
+    command: u64,
+    alias: &Alias,
+    step: &Step,
+) -> Result<(), OutOfMemory>
     requires declared { is_declared (tablets_of fields.old.places.items) alias.now ≡ true }
     requires counted { AreCounted (2 ^ 64 - 2) fields.old.places.items }
-    ensures ok { OnOk result (Follows (data_of fields.old) (data_of fields.new) (events.Write command)) }
+    ensures ok { OnOk result (Becomes (data_of fields.old) (data_of fields.new) step.now (events.Write command alias.now)) }
     ensures err { OnErr result (data_of fields.new ≡ data_of fields.old) }
 {
-    let gtid = own_gtid(&fields.places, alias);
-    let kind = Kind::Write {
-        term: FIRST_TERM,
-        client: FIRST_CLIENT,
-        number: fields.writes,
+    let kind = match open_command(&fields.commands, command) {
+        Some(state) => kind_of(state),
+        None => return Ok(()),
     };
-    write_at(&mut fields.places, alias, kind)?;
-    note_written(&mut fields.pending, &gtid);
-    Ok(())
+    write(fields, command, alias, kind, step)
 }
 
-/// The recorded tablet writes the entry of the open write.
-fn write(fields: &mut Fields, command: u64) -> Result<(), OutOfMemory>
-    requires declared { IsRecordDeclared (data_of fields.old) }
-    requires counted { AreCounted (2 ^ 64 - 2) fields.old.places.items }
-    ensures ok { OnOk result (Follows (data_of fields.old) (data_of fields.new) (events.Write command)) }
-    ensures err { OnErr result (data_of fields.new ≡ data_of fields.old) }
+/// So many milliseconds go by.
+fn tick(fields: &mut Fields, milliseconds: u64, step: &Step)
+    requires met { meets (config_in (data_of fields.old)) (seen (data_of fields.old)) (events.Tick milliseconds) ≡ true }
+    ensures { Becomes (data_of fields.old) (data_of fields.new) step.now (events.Tick milliseconds) }
 {
-    match fields.recorded {
-        Some(alias) => write_entry(fields, &alias, command),
-        None => Ok(()),
-    }
+    let _made = step;
+    fields.clock += milliseconds;
 }
 
-/// Closes the open command.
-fn end(fields: &mut Fields, command: u64, answer: &CommandAnswer)
-    ensures { Follows (data_of fields.old) (data_of fields.new) (events.End command answer.now) }
+/// Frees the lock.
+fn lapse(fields: &mut Fields, step: &Step)
+    ensures { Becomes (data_of fields.old) (data_of fields.new) step.now events.Lapse }
 {
-    let _ended = answer;
-    fields.pending = None;
+    let _made = step;
+    fields.topo.lapse();
 }
 
-/// The reply of the event's row.
-pub(crate) fn answer(fields: &Fields, event: &Event) -> Reply
-    requires met { meets (config_in (data_of fields.now)) (seen (data_of fields.now)) event.now ≡ true }
-    requires declared { IsRecordDeclared (data_of fields.now) }
-    requires begun { fields.now.begun < 2 ^ 64 - 1 }
-    requires counted { AreCounted (2 ^ 64 - 2) fields.now.places.items }
-    ensures { result ≡ answer (config_in (data_of fields.now)) (seen (data_of fields.now)) event.now }
+/// Closes the command.
+fn end(fields: &mut Fields, command: u64, answer: &CommandAnswer, step: &Step)
+    ensures { Becomes (data_of fields.old) (data_of fields.new) step.now (events.End command answer.now) }
 {
-    match event {
-        Event::Begin { .. } => Reply::Begun {
-            command: fields.begun + 1,
-        },
-        Event::Promote { alias, .. } => Reply::Wrote {
-            gtid: own_gtid(&fields.places, alias),
-        },
-        Event::Write { .. } => match &fields.recorded {
-            Some(alias) => Reply::Wrote {
-                gtid: own_gtid(&fields.places, alias),
-            },
-            None => Reply::Ok,
-        },
-        Event::End { .. } => Reply::Ok,
-    }
+    let _said = answer;
+    let _made = step;
+    let client = match open_command(&fields.commands, command) {
+        Some(state) => state.client,
+        None => return,
+    };
+    set_ended(&mut fields.commands, command);
+    close(&mut fields.actors, client as usize);
 }
 
 /// Changes the fields as the event's row does. Want of memory changes nothing.
-pub(crate) fn change(fields: &mut Fields, event: &Event) -> Result<(), OutOfMemory>
+pub(crate) fn change(fields: &mut Fields, event: &Event, step: &Step) -> Result<(), OutOfMemory>
     requires met { meets (config_in (data_of fields.old)) (seen (data_of fields.old)) event.now ≡ true }
-    requires declared { IsRecordDeclared (data_of fields.old) }
-    requires begun { fields.old.begun < 2 ^ 64 - 1 }
-    requires writes { fields.old.writes < 2 ^ 64 - 1 }
+    requires few { AreFew (2 ^ 20) (data_of fields.old) }
     requires counted { AreCounted (2 ^ 64 - 2) fields.old.places.items }
-    ensures ok { OnOk result (Follows (data_of fields.old) (data_of fields.new) event.now) }
+    ensures ok { OnOk result (Becomes (data_of fields.old) (data_of fields.new) step.now event.now) }
     ensures err { OnErr result (data_of fields.new ≡ data_of fields.old) }
 {
     match event {
-        Event::Begin { command } => {
-            begin(fields, command);
+        Event::Begin { actor, command } => begin(fields, actor, command, step),
+        Event::Take { command } => take(fields, *command, step),
+        Event::Read { command } => read(fields, *command, step),
+        Event::Intend { command, alias } => intend(fields, *command, alias, step),
+        Event::Promote { command, alias } => promote(fields, *command, alias, step),
+        Event::Record { command, alias } => set_record(fields, *command, alias, step),
+        Event::Release { command } => {
+            release(fields, *command, step);
             Ok(())
         }
-        Event::Promote { command, alias } => promote(fields, *command, alias),
-        Event::Write { command } => write(fields, *command),
+        Event::Lapse => {
+            lapse(fields, step);
+            Ok(())
+        }
+        Event::Write { command, alias } => write_entry(fields, *command, alias, step),
+        Event::Tick { milliseconds } => {
+            tick(fields, *milliseconds, step);
+            Ok(())
+        }
         Event::End { command, answer } => {
-            end(fields, *command, answer);
+            end(fields, *command, answer, step);
             Ok(())
         }
     }

@@ -1,5 +1,5 @@
 use gtid_sets::Gtid;
-use shard_names::{Alias, ShardName};
+use shard_names::{Alias, Name, ShardName};
 
 /// What an actor asks for.
 #[derive(Clone, Copy, PartialEq, Eq)]
@@ -23,10 +23,16 @@ pub enum Bar {
 /// Why a command was refused.
 #[derive(Clone, Copy, PartialEq, Eq)]
 pub enum Refusal {
+    /// The lock is held in this term, by a command of this actor.
+    LockTaken { term: u64, by: Name },
+    /// The lock was lost. The topology is at this term.
+    LockLost { term: u64 },
     /// The alias is not declared.
     NoSuchTablet { alias: Alias },
     /// The tablet is declared and may not be promoted.
     NotEligible { alias: Alias, bar: Bar },
+    /// There is an intent of this term already, and a reparent away from it is not built.
+    NotBuilt { term: u64 },
 }
 
 /// How a command ended.

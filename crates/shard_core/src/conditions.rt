@@ -1,150 +1,96 @@
-ghost use Rattle.std.specs.Prelude.{◌≡◌, is_none};
-ghost use Rattle.shard_core.specs.Places.{seen, data_of, config_in, pending_of, tablets_of};
-ghost use Rattle.shard_core.specs.World.{Config, if_number};
-ghost use Rattle.shard_core.specs.Causes.{is_alias, is_gtid, has_planned_cause, has_write_cause, has_command_cause, has_cause};
-ghost use Rattle.shard_core.specs.Table.{meets, may_promote, may_write, is_reparent_to, asks_for, is_write, is_fresh_write, row_number};
+ghost use Rattle.std.specs.Prelude.{◌≡◌, false, slice_get};
+ghost use Rattle.shard_core.specs.World.{numbered, if_open};
+ghost use Rattle.shard_core.specs.Places.{seen, data_of, config_in};
+ghost use Rattle.shard_core.specs.Table.{meets, took_nothing, is_alias_of, may_record, is_intent, is_first_intent, is_write, is_recorded, may_write, may_tick, by_term, row_number};
 
+use crate::causes::has_cause;
+use crate::commands::{open_command, open_of, term_of};
 use crate::places::{is_declared, is_eligible_alias};
-use crate::world::{Fields, Opened, Place};
-use crate::{Bar, Command, CommandAnswer, Event, Refusal};
-use gtid_sets::Gtid;
+use crate::world::{CommandState, Fields};
+use crate::{Command, Event};
 use shard_names::Alias;
+use topo_lock::{Intent, Record, Topo};
 
-/// The open command, if it has this number.
-fn open_command(pending: &Option<Opened>, command: u64) -> Option<Opened>
-    ensures { pending_of result ≡ if_number command (pending_of pending.now) }
-{
-    match pending {
-        Some(opened) if opened.number == command => Some(*opened),
-        _ => None,
-    }
-}
+/// The most milliseconds that go by at once: a day.
+const MOST_MILLISECONDS: u64 = 86400000;
 
-fn is_reparent_to(alias: &Alias, command: &Command) -> bool
-    ensures { result ≡ is_reparent_to alias.now command.now }
-{
-    match command {
-        Command::Planned { new_primary, .. } => *new_primary == *alias,
-        Command::Write => false,
-    }
-}
+/// Where the year 9999 begins, in milliseconds since the start of 1970.
+const LAST_MOMENT: u64 = 253370764800000;
 
-fn asks_for(alias: &Alias, opened: &Option<Opened>) -> bool
-    ensures { result ≡ asks_for alias.now (pending_of opened.now) }
+/// Whether the command is open, and has not taken the lock.
+fn took_nothing(commands: &[CommandState], command: u64) -> bool
+    ensures { result ≡ took_nothing (if_open (numbered commands.now command)) }
 {
-    match opened {
-        Some(opened) => is_reparent_to(alias, &opened.command),
+    match open_command(commands, command) {
+        Some(state) => state.term.is_none(),
         None => false,
     }
 }
 
-fn is_fresh_write(opened: &Option<Opened>) -> bool
-    ensures { result ≡ is_fresh_write (pending_of opened.now) }
+fn is_alias_of(intent: &Option<Intent>, alias: &Alias) -> bool
+    ensures { result ≡ is_alias_of intent.now alias.now }
 {
-    match opened {
-        Some(opened) => matches!(opened.command, Command::Write) && opened.wrote.is_none(),
+    match intent {
+        Some(intent) => intent.alias == *alias,
         None => false,
     }
 }
 
-fn may_promote(fields: &Fields, command: u64, alias: &Alias) -> bool
-    ensures { result ≡ may_promote (config_in (data_of fields.now)) (seen (data_of fields.now)) command alias.now }
+fn may_record(topo: &Topo, alias: &Alias, term: Option<u64>) -> bool
+    ensures { result ≡ by_term term false (may_record topo.now.topology alias.now) }
 {
-    asks_for(alias, &open_command(&fields.pending, command))
-        && is_eligible_alias(&fields.places, alias)
-        && fields.recorded.is_none()
-}
-
-fn may_write(fields: &Fields, command: u64) -> bool
-    ensures { result ≡ may_write (seen (data_of fields.now)) command }
-{
-    is_fresh_write(&open_command(&fields.pending, command)) && fields.recorded.is_some()
-}
-
-fn is_alias(recorded: &Option<Alias>, alias: &Alias) -> bool
-    ensures { result ≡ is_alias recorded.now alias.now }
-{
-    match recorded {
-        Some(other) => *other == *alias,
+    match term {
+        Some(term) => !topo.is_held_in(term) || is_alias_of(&topo.last_intent(), alias),
         None => false,
     }
 }
 
-fn is_gtid(wrote: &Option<Gtid>, gtid: &Gtid) -> bool
-    ensures { result ≡ is_gtid wrote.now gtid.now }
+fn is_first_of(intents: &[Intent], alias: &Alias, term: u64) -> bool
+    ensures { result ≡ is_intent (slice_get intents.now 0) alias.now term }
 {
-    match wrote {
-        Some(other) => *other == *gtid,
+    match intents.get(0) {
+        Some(intent) => intent.alias == *alias && intent.term == term,
         None => false,
     }
 }
 
-/// At this stage the one term.
-pub(crate) const FIRST_TERM: u64 = 1;
-
-fn has_planned_cause(
-    places: &[Place],
-    new_primary: &Alias,
-    wrote: &Option<Gtid>,
-    answer: &CommandAnswer,
-) -> bool
-    ensures { result ≡ has_planned_cause (record { tablets = tablets_of places.now }) new_primary.now wrote.now answer.now }
+fn is_first_intent(topo: &Topo, alias: &Alias, term: Option<u64>) -> bool
+    ensures { result ≡ by_term term false (is_first_intent topo.now.topology alias.now) }
 {
-    match answer {
-        CommandAnswer::Promoted { alias, term } => {
-            *new_primary == *alias && *term == FIRST_TERM && wrote.is_some()
+    match term {
+        Some(term) => is_first_of(topo.intents(), alias, term),
+        None => false,
+    }
+}
+
+fn is_recorded(primary: &Option<Record>, alias: &Alias) -> bool
+    ensures { result ≡ is_recorded primary.now alias.now }
+{
+    match primary {
+        Some(record) => record.alias == *alias,
+        None => false,
+    }
+}
+
+/// Whether the command is a write that has written nothing, and the tablet the one that was recorded when it began.
+fn may_write(commands: &[CommandState], command: u64, alias: &Alias) -> bool
+    ensures { result ≡ may_write (if_open (numbered commands.now command)) alias.now }
+{
+    match open_command(commands, command) {
+        Some(state) => {
+            matches!(state.command, Command::Write)
+                && state.wrote.is_none()
+                && is_recorded(&state.primary, alias)
         }
-        CommandAnswer::Refused { refusal } => match refusal {
-            Refusal::NoSuchTablet { alias } => {
-                *new_primary == *alias && !is_declared(places, new_primary)
-            }
-            Refusal::NotEligible { alias, bar } => match bar {
-                Bar::MustNot => {
-                    *new_primary == *alias
-                        && is_declared(places, new_primary)
-                        && !is_eligible_alias(places, new_primary)
-                }
-            },
-        },
-        CommandAnswer::Committed { .. } => false,
-        CommandAnswer::NoPrimaryRecorded => false,
+        None => false,
     }
 }
 
-fn has_write_cause(recorded: &Option<Alias>, wrote: &Option<Gtid>, answer: &CommandAnswer) -> bool
-    ensures { result ≡ has_write_cause recorded.now wrote.now answer.now }
+fn may_tick(fields: &Fields, milliseconds: u64) -> bool
+    ensures { result ≡ may_tick (seen (data_of fields.now)) milliseconds }
 {
-    match answer {
-        CommandAnswer::Committed { gtid, alias, term } => {
-            is_gtid(wrote, gtid) && is_alias(recorded, alias) && *term == FIRST_TERM
-        }
-        CommandAnswer::NoPrimaryRecorded => recorded.is_none(),
-        CommandAnswer::Promoted { .. } => false,
-        CommandAnswer::Refused { .. } => false,
-    }
-}
-
-fn has_command_cause(
-    fields: &Fields,
-    command: &Command,
-    wrote: &Option<Gtid>,
-    answer: &CommandAnswer,
-) -> bool
-    ensures { result ≡ has_command_cause (config_in (data_of fields.now)) (seen (data_of fields.now)) command.now wrote.now answer.now }
-{
-    match command {
-        Command::Planned { new_primary, .. } => {
-            has_planned_cause(&fields.places, new_primary, wrote, answer)
-        }
-        Command::Write => has_write_cause(&fields.recorded, wrote, answer),
-    }
-}
-
-fn has_cause(fields: &Fields, opened: &Option<Opened>, answer: &CommandAnswer) -> bool
-    ensures { result ≡ has_cause (config_in (data_of fields.now)) (seen (data_of fields.now)) (pending_of opened.now) answer.now }
-{
-    match opened {
-        Some(opened) => has_command_cause(fields, &opened.command, &opened.wrote, answer),
+    match fields.clock.checked_add(milliseconds) {
+        Some(clock) => milliseconds <= MOST_MILLISECONDS && clock < LAST_MOMENT,
         None => false,
     }
 }
@@ -154,12 +100,30 @@ pub(crate) fn meets(fields: &Fields, event: &Event) -> bool
     ensures { result ≡ meets (config_in (data_of fields.now)) (seen (data_of fields.now)) event.now }
 {
     match event {
-        Event::Begin { .. } => fields.pending.is_none(),
-        Event::Promote { command, alias } => may_promote(fields, *command, alias),
-        Event::Write { command } => may_write(fields, *command),
-        Event::End { command, answer } => {
-            has_cause(fields, &open_command(&fields.pending, *command), answer)
+        Event::Begin { actor, .. } => open_of(&fields.actors, actor).is_none(),
+        Event::Take { command } => took_nothing(&fields.commands, *command),
+        Event::Read { command } => term_of(&fields.commands, *command).is_some(),
+        Event::Intend { command, alias } => {
+            term_of(&fields.commands, *command).is_some()
+                && is_eligible_alias(&fields.places, alias)
         }
+        Event::Promote { command, alias } => {
+            let term = term_of(&fields.commands, *command);
+            is_eligible_alias(&fields.places, alias)
+                && !fields.promoted
+                && is_first_intent(&fields.topo, alias, term)
+        }
+        Event::Record { command, alias } => {
+            let term = term_of(&fields.commands, *command);
+            is_declared(&fields.places, alias) && may_record(&fields.topo, alias, term)
+        }
+        Event::Release { command } => term_of(&fields.commands, *command).is_some(),
+        Event::Lapse => true,
+        Event::Write { command, alias } => {
+            is_declared(&fields.places, alias) && may_write(&fields.commands, *command, alias)
+        }
+        Event::Tick { milliseconds } => may_tick(fields, *milliseconds),
+        Event::End { command, answer } => has_cause(fields, *command, answer),
     }
 }
 
@@ -169,8 +133,15 @@ pub(crate) fn row_number(event: &Event) -> u8
 {
     match event {
         Event::Begin { .. } => 1,
-        Event::Promote { .. } => 2,
-        Event::Write { .. } => 3,
-        Event::End { .. } => 4,
+        Event::Take { .. } => 2,
+        Event::Read { .. } => 3,
+        Event::Intend { .. } => 4,
+        Event::Promote { .. } => 5,
+        Event::Record { .. } => 6,
+        Event::Release { .. } => 7,
+        Event::Lapse => 8,
+        Event::Write { .. } => 9,
+        Event::Tick { .. } => 10,
+        Event::End { .. } => 11,
     }
 }

@@ -1,23 +1,27 @@
-ghost use Rattle.std.specs.Prelude.{◌≡◌, ◌<◌, ◌≤◌, ◌↔◌, ◌++◌, ◌∷◌, [], ℕ, true, false, length, IfOk, OnOk, OnErr, IsErrOf, map};
+ghost use Rattle.std.specs.Prelude.{◌≡◌, ◌<◌, ◌≤◌, ◌↔◌, ◌++◌, ◌∷◌, ◌-◌, ◌^◌, [], ℕ, true, false, length, IfOk, OnOk, OnErr, IsErrOf, map, Some, None};
 ghost use Rattle.shard_names.specs.Tablets.{AreTablets, tablet_of};
-ghost use Rattle.shard_core.specs.World.{Config, opening};
+ghost use Rattle.shard_core.specs.World.{Config, opening, idle_actor, main_name};
 ghost use Rattle.shard_core.specs.Table.{Met, meets, answer, row_number, step_of};
-ghost use Rattle.shard_core.specs.Places.{Data, data_of, seen, config_in, Leads, world_seen, opened};
+ghost use Rattle.shard_core.specs.Places.{Data, data_of, seen, config_in, Leads, world_seen, opened, AreFew, AreCounted};
 
-use crate::changes::{answer, change};
+use crate::changes::change;
 use crate::conditions::{meets, row_number};
+use crate::event::push_step;
 use crate::places::find_tablet;
-use crate::world::{Fields, Place};
+use crate::replies::answer;
+use crate::world::{ActorState, Fields, Place};
 use crate::{Command, CommandAnswer, Event, History, Refusal, Reply, Step};
 use shard_base::{Items, OutOfMemory};
-use shard_names::{Alias, Tablet};
+use shard_names::{Alias, Name, Tablet};
 use std::alloc::Global;
 use std::marker::Model;
+use topo_lock::Topo;
 
 /// Why the machine made no step. It then stands as it was.
 #[derive(Clone, Copy, Debug, PartialEq, Eq)]
 pub enum Refused {
-    /// The condition of the event's row does not hold. Rows count from 1: Begin, Promote, Write, End.
+    /// The condition of the event's row does not hold. Rows count from 1: Begin, Take, Read, Intend, Promote, Record,
+    /// Release, Lapse, Write, Tick, End.
     Unmet { row: u8 },
     /// The history has all the steps that it may have.
     Full,
@@ -37,27 +41,29 @@ pub struct Shard {
 // Clauses see the tablets and the steps: all that stands follows from them.
 impl Model for Shard {
     ghost use Rattle.shard_core.specs.Kept.{Kept};
-    ghost use Rattle.shard_core.specs.Places.{tablets_of, data_of, Leads};
+    ghost use Rattle.shard_core.specs.Places.{data_of, config_in, Leads};
 
     ghost Value = { Kept };
 
-    ghost view = { λ s. record { tablets = tablets_of s.fields.places.items; steps = s.history.steps } };
+    ghost view = { λ s. record { config = config_in (data_of s.fields); steps = s.history.steps } };
 
     ghost invariant = { λ s. Leads (data_of s.fields) s.history.steps };
 }
 
-fn push_step(steps: &mut Items<Step>, event: &Event, reply: &Reply) -> Result<(), OutOfMemory>
-    ensures ok { OnOk result (steps.new ≡ steps.old ++ record { event = event.now; reply = reply.now } ∷ []) }
-    ensures err { OnErr result (steps.new ≡ steps.old) }
+/// The event with the reply of its row.
+fn step_of(fields: &Fields, event: &Event) -> Step
+    requires met { meets (config_in (data_of fields.now)) (seen (data_of fields.now)) event.now ≡ true }
+    requires few { AreFew (2 ^ 20) (data_of fields.now) }
+    requires counted { AreCounted (2 ^ 64 - 2) fields.now.places.items }
+    ensures { result ≡ step_of (config_in (data_of fields.now)) (seen (data_of fields.now)) event.now }
 {
     // The proof's generator wants each enum inside a step named here.
     let _command: Option<&Command> = None;
     let _answer: Option<&CommandAnswer> = None;
     let _refusal: Option<&Refusal> = None;
-    steps.push(Step {
-        event: *event,
-        reply: *reply,
-    })
+    let event = *event;
+    let reply = answer(fields, &event);
+    Step { event, reply }
 }
 
 /// The step of an event whose row's condition holds. Want of memory changes nothing.
@@ -66,16 +72,17 @@ fn make(fields: &mut Fields, steps: &mut Items<Step>, event: &Event) -> Result<R
     requires room { length steps.old < 1000000 }
     requires met { meets (config_in (data_of fields.old)) (seen (data_of fields.old)) event.now ≡ true }
     ensures leads { OnOk result (Leads (data_of fields.new) steps.new) }
-    ensures tablets { OnOk result (config_in (data_of fields.new) ≡ config_in (data_of fields.old)) }
+    ensures config { OnOk result (config_in (data_of fields.new) ≡ config_in (data_of fields.old)) }
     ensures reply { IfOk result (λ reply. reply ≡ answer (config_in (data_of fields.old)) (seen (data_of fields.old)) event.now) }
     ensures step { OnOk result (steps.new ≡ steps.old ++ step_of (config_in (data_of fields.old)) (seen (data_of fields.old)) event.now ∷ []) }
     ensures same_steps { OnErr result (steps.new ≡ steps.old) }
     ensures same_fields { OnErr result (data_of fields.new ≡ data_of fields.old) }
 {
     let before = steps.len();
-    let reply = answer(fields, event);
-    push_step(steps, event, &reply)?;
-    match change(fields, event) {
+    let step = step_of(fields, event);
+    let reply = step.reply;
+    push_step(steps, &step)?;
+    match change(fields, event, &step) {
         Ok(()) => Ok(reply),
         Err(OutOfMemory) => {
             steps.truncate(before);
@@ -99,22 +106,47 @@ fn opened_places(alloc: Global, tablets: &[Tablet]) -> Result<Vec<Place>, OutOfM
     Ok(places)
 }
 
-impl Shard {
-    ghost use Rattle.shard_core.specs.Kept.{Makes, IsSafe, config_of, world_of};
+/// The actor who needs no name.
+const MAIN: &[u8] = b"main";
 
-    /// A shard of these tablets to which nothing has happened.
-    pub fn new(alloc: Global, tablets: &[Tablet]) -> Result<Shard, OutOfMemory>
+/// The actors before anybody has given a command.
+fn opened_actors(alloc: Global) -> Result<Vec<ActorState>, OutOfMemory>
+    ensures { IfOk result (λ actors. actors.items ≡ idle_actor main_name ∷ []) }
+{
+    let mut actors = Vec::new(alloc);
+    match Name::from_slice(MAIN) {
+        Some(name) => actors.push(ActorState {
+            name,
+            pending: None,
+            writes: 0,
+        })?,
+        None => unreachable!(),
+    }
+    Ok(actors)
+}
+
+impl Shard {
+    ghost use Rattle.shard_core.specs.Kept.{Makes, IsSafe, world_of};
+
+    /// A shard of these tablets to which nothing has happened. Its clock begins at this moment, in milliseconds since the start of
+    /// 1970.
+    pub fn new(alloc: Global, tablets: &[Tablet], moment: u64) -> Result<Shard, OutOfMemory>
         requires { AreTablets tablets.now }
-        ensures { IfOk result (λ shard. shard ≡ record { tablets = tablets.now; steps = [] }) }
+        ensures { IfOk result (λ shard. shard ≡ record { config = record { tablets = tablets.now; moment = moment }; steps = [] }) }
     {
         let places = opened_places(alloc, tablets)?;
+        let actors = opened_actors(alloc)?;
+        let topo = Topo::new(alloc, tablets.len() as u64)?;
         Ok(Shard {
             fields: Fields {
+                alloc,
                 places,
-                recorded: None,
-                pending: None,
-                begun: 0,
-                writes: 0,
+                moment,
+                topo,
+                clock: moment,
+                promoted: false,
+                actors,
+                commands: Vec::new(alloc),
             },
             history: History {
                 steps: Items::new(alloc),
@@ -132,7 +164,7 @@ impl Shard {
     /// The history, without the shard: a run of the machine, with all that holds of every run. It takes no memory.
     pub fn into_history(self) -> History
         ensures steps { result.steps ≡ self.steps }
-        ensures safe { IsSafe self.tablets result.steps }
+        ensures safe { IsSafe self.config result.steps }
     {
         let Shard { history, .. } = self;
         history
@@ -140,32 +172,32 @@ impl Shard {
 
     /// The tablet with this alias. It takes no memory.
     pub fn tablet(&self, alias: &Alias) -> Option<Tablet>
-        ensures { result ≡ tablet_of self.now.tablets alias.now }
+        ensures { result ≡ tablet_of self.now.config.tablets alias.now }
     {
         find_tablet(&self.fields.places, alias)
     }
 
-    /// The recorded primary. It takes no memory.
-    pub fn recorded(&self) -> Option<Alias>
-        ensures { result ≡ (world_of self.now).recorded }
+    /// The lock, the intents and the record. It takes no memory.
+    pub fn topo(&self) -> &Topo
+        ensures { result.now.topology ≡ (world_of self.now).topo }
     {
-        self.fields.recorded
+        &self.fields.topo
     }
 
     /// How many commands have begun. It takes no memory.
     pub fn begun(&self) -> u64
-        ensures { result ≡ (world_of self.now).begun }
+        ensures { result ≡ length (world_of self.now).commands }
     {
-        self.fields.begun
+        self.fields.commands.len() as u64
     }
 
     /// One step of the machine. A refusal changes nothing.
     pub fn apply(&mut self, event: Event) -> Result<Reply, Refused>
         ensures made { OnOk result (Makes self.old self.new event) }
-        ensures reply { IfOk result (λ reply. reply ≡ answer (config_of self.old) (world_of self.old) event) }
-        ensures unmet { IsErrOf result (Refused.Unmet (row_number event)) ↔ (meets (config_of self.old) (world_of self.old) event ≡ false) }
+        ensures reply { IfOk result (λ reply. reply ≡ answer self.old.config (world_of self.old) event) }
+        ensures unmet { IsErrOf result (Refused.Unmet (row_number event)) ↔ (meets self.old.config (world_of self.old) event ≡ false) }
         ensures row { (row : ℕ) → IsErrOf result (Refused.Unmet row) → row ≡ row_number event }
-        ensures full { IsErrOf result Refused.Full ↔ (Met (config_of self.old) (world_of self.old) event × (length self.old.steps ≡ MOST_STEPS)) }
+        ensures full { IsErrOf result Refused.Full ↔ (Met self.old.config (world_of self.old) event × (length self.old.steps ≡ MOST_STEPS)) }
         ensures err { OnErr result (self.new ≡ self.old) }
     {
         if !meets(&self.fields, &event) {

@@ -1,7 +1,9 @@
-use crate::Command;
+use crate::{Command, Step};
 use gtid_sets::{Entry, Gtid};
 use shard_base::Items;
-use shard_names::{Alias, Tablet};
+use shard_names::{Name, Tablet};
+use std::alloc::Global;
+use topo_lock::{Record, Topo};
 
 /// A tablet with its log, and the greatest number of its own server in it.
 #[derive(Drop)]
@@ -11,20 +13,43 @@ pub(crate) struct Place {
     pub(crate) greatest: u64,
 }
 
-/// The open command, and what it has written.
+/// Who gives commands: the pending one by its number, and how many writes it has begun.
 #[derive(Clone, Copy)]
-pub(crate) struct Opened {
-    pub(crate) number: u64,
+pub(crate) struct ActorState {
+    pub(crate) name: Name,
+    pub(crate) pending: Option<u64>,
+    pub(crate) writes: u64,
+}
+
+/// A command that has begun.
+#[derive(Drop)]
+pub(crate) struct CommandState {
     pub(crate) command: Command,
+    pub(crate) actor: Name,
+    /// The place of its actor among the actors.
+    pub(crate) client: u32,
+    /// How many writes its actor had begun with it.
+    pub(crate) number: u64,
+    /// What was recorded right after it began.
+    pub(crate) primary: Option<Record>,
+    /// The term in which it took the lock.
+    pub(crate) term: Option<u64>,
+    pub(crate) ended: bool,
     pub(crate) wrote: Option<Gtid>,
+    /// What it did by itself, with the replies.
+    pub(crate) acts: Items<Step>,
 }
 
 /// What stands at a moment, as the shard keeps it.
 #[derive(Drop)]
 pub(crate) struct Fields {
+    pub(crate) alloc: Global,
     pub(crate) places: Vec<Place>,
-    pub(crate) recorded: Option<Alias>,
-    pub(crate) pending: Option<Opened>,
-    pub(crate) begun: u64,
-    pub(crate) writes: u64,
+    /// The moment at which the clock began.
+    pub(crate) moment: u64,
+    pub(crate) topo: Topo,
+    pub(crate) clock: u64,
+    pub(crate) promoted: bool,
+    pub(crate) actors: Vec<ActorState>,
+    pub(crate) commands: Vec<CommandState>,
 }

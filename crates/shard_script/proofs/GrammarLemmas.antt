@@ -217,7 +217,6 @@ shard_script l ls t got =
       few_tablets = omega (arith, fits.few_tablets, length_permutation r.declared t.tablets tablets);
       aliases_differ = r.aliases_differ;
       servers_differ = r.servers_differ;
-      one_planned = fits.one_planned;
       of_shard = All-map (FitsShard t.shard) (IsOfShard first.0) t.actions (of_this t.shard first.0 r.shard) fits.actions;
     }
 

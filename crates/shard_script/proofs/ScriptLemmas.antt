@@ -1,11 +1,10 @@
 -- Lines read one after another.
-use Rattle.std.proofs.Common.{◌≡◌, ℕ, ◌+◌, ◌<◌, ◌≤◌, List, [], ◌∷◌, Bool, true, false, Option, Some, None, Result, Ok, Err, IfOk, cond, ltb, not, ◌&&◌, ◌||◌, length, length-append, subst, refl, sym, ◌∙◌, arith}
-use Rattle.std.specs.Prelude.{All, filter, is_some, is_none, ◌==◌, nat_lt, nat_le, ⊤}
-use Rattle.std.specs.List.{list_any}
+use Rattle.std.proofs.Common.{◌≡◌, ℕ, ◌+◌, ◌<◌, ◌≤◌, List, [], ◌∷◌, Bool, true, false, Option, Some, None, Result, Ok, Err, IfOk, cond, ltb, not, ◌&&◌, length, length-append, subst, refl, sym, ◌∙◌, arith}
+use Rattle.std.specs.Prelude.{All, is_some, is_none, ◌==◌, nat_lt, nat_le, ⊤}
 use Rattle.std.specs.Str.{bytes_eq}
 use Rattle.std.proofs.lemmas.Bool.{false≢true}
 use Rattle.std.proofs.lemmas.Bool.Decides.{nat_tests}
-use Rattle.std.proofs.lemmas.List.Elements.{All-nil, All-cons, All-append, filter-append}
+use Rattle.std.proofs.lemmas.List.Elements.{All-nil, All-cons, All-append}
 use Rattle.std.proofs.lemmas.Slice.Eq.{bytes_eq-Decides}
 use borrow.Author.Tests.{ltb-false}
 use Rattle.shard_names.specs.declared.shard_name.ShardName.{ShardName}
@@ -21,7 +20,7 @@ use Rattle.shard_script.specs.declared.script.Script.{Script}
 use Rattle.shard_script.specs.declared.script.ScriptFault.{ScriptFault}
 use Rattle.shard_script.specs.Lines.{line_of}
 use Rattle.shard_script.specs.Grammar.{Says}
-use Rattle.shard_script.specs.Script.{Gives, Fits, FitsShard, read_on, read_lines, with_bytes, reading, admits, with_line, has_alias, has_server, is_shard, is_planned, empty_script, fault_behind, lines_of, ended_lines, first_bytes}
+use Rattle.shard_script.specs.Script.{Gives, Fits, FitsShard, read_on, read_lines, with_bytes, reading, admits, with_line, has_alias, has_server, is_shard, empty_script, fault_behind, lines_of, ended_lines, first_bytes}
 use Rattle.shard_script.proofs.LineLemmas.{says_of, and_both}
 use Rattle.shard_script.proofs.TabletsInOrder.{length-in_place, rises-in_place, apart-in_place}
 
@@ -37,7 +36,6 @@ record SoFar (place : ℕ) (s : Script) : Type 0 where
   few_tablets : length s.tablets ≤ 32
   named : s.shard ≡ None → (s.tablets ≡ []) × (s.actions ≡ [])
   actions : All (FitsShard s.shard) s.actions
-  one_planned : length (filter is_planned s.actions) ≤ 1
   few : length s.actions < place
 
 -- how often a line gives its command
@@ -74,14 +72,6 @@ shard_is (Some s) name h =
     let shard : s.shard ≡ name.shard = (bytes_eq-Decides s.shard name.shard).0 tests.1 in
     λ i. Some (record { keyspace = keyspace i; shard = shard i })
 
-none_planned : (xs : List Action) → list_any is_planned xs ≡ false → filter is_planned xs ≡ []
-none_planned [] h = refl
-none_planned (x ∷ xs) h = by_test (is_planned x) (none_planned xs) h
-  where
-    by_test : (b : Bool) → (list_any is_planned xs ≡ false → filter is_planned xs ≡ []) → (b || list_any is_planned xs) ≡ false → cond b (x ∷ filter is_planned xs) (filter is_planned xs) ≡ []
-    by_test true rest k = absurd (false≢true (sym k))
-    by_test false rest k = rest k
-
 one_shard : (place : ℕ) (s : Script) (name : ShardName) → SoFar place s → is_none s.shard ≡ true → SoFar (place + 1) (with_line s (Shard name))
 one_shard place s name h ok =
     let empty = h.named (none_is s.shard ok) in
@@ -90,7 +80,6 @@ one_shard place s name h ok =
       few_tablets = h.few_tablets;
       named = λ unnamed. absurd (cc);
       actions = subst (λ (xs : List Action). All (FitsShard (Some name)) xs) (sym empty.1) (All-nil (FitsShard (Some name)));
-      one_planned = h.one_planned;
       few = omega (arith, h.few);
     }
 
@@ -110,16 +99,13 @@ one_tablet place s t h ok =
       few_tablets = omega (arith, few, length-in_place t s.tablets);
       named = λ unnamed. absurd (some_not s.shard p4.0 unnamed);
       actions = h.actions;
-      one_planned = h.one_planned;
       few = omega (arith, h.few);
     }
 
 one_command : (place : ℕ) (s : Script) (command : Command) (n : ℕ) → Counted (Play command n) → SoFar place s → admits s (Play command n) ≡ true → SoFar (place + 1) (with_line s (Play command n))
 unfolding Counted
 one_command place s (Planned name a) n once h ok =
-    let tests = and_both (is_shard s.shard name) (not (list_any is_planned s.actions)) ok in
-    let shard : s.shard ≡ Some name = shard_is s.shard name tests.0 in
-    let none : filter is_planned s.actions ≡ [] = none_planned s.actions (not_true (list_any is_planned s.actions) tests.1) in
+    let shard : s.shard ≡ Some name = shard_is s.shard name ok in
     let action : Action = actions.Play (Planned name a) n in
     let one : FitsShard s.shard action = (shard, once) in
     record {
@@ -127,7 +113,6 @@ one_command place s (Planned name a) n once h ok =
       few_tablets = h.few_tablets;
       named = λ unnamed. absurd (let e : Some name ≡ None = sym shard ∙ unnamed in cc);
       actions = All-append (FitsShard s.shard) s.actions (action ∷ []) h.actions (All-cons (FitsShard s.shard) action [] one (All-nil (FitsShard s.shard)));
-      one_planned = rw (filter-append is_planned s.actions (action ∷ []), none) (omega arith);
       few = omega (arith, h.few, length-append s.actions (action ∷ []));
     }
 one_command place s Write n range h ok =
@@ -138,7 +123,6 @@ one_command place s Write n range h ok =
       few_tablets = h.few_tablets;
       named = λ unnamed. absurd (some_not s.shard ok unnamed);
       actions = All-append (FitsShard s.shard) s.actions (action ∷ []) h.actions (All-cons (FitsShard s.shard) action [] one (All-nil (FitsShard s.shard)));
-      one_planned = rw (filter-append is_planned s.actions (action ∷ [])) (omega (arith, h.one_planned, length-append (filter is_planned s.actions) []));
       few = omega (arith, h.few, length-append s.actions (action ∷ []));
     }
 
@@ -174,7 +158,7 @@ on_more place s t l ls false (Some u) past with h got rest = rest u (one_more pl
 fits_on : (place : ℕ) (s t : Script) (ls : List (List ℕ)) → SoFar place s → place ≤ 1001 → read_on place s ls ≡ Ok t → Fits t
 fits_on place s t [] h le got =
     let same : s ≡ t = (let e : Ok s ≡ Ok t = got in cc) in
-    subst (λ (x : Script). Fits x) same (record { tablets = h.tablets; few_tablets = h.few_tablets; named = h.named; actions = h.actions; one_planned = h.one_planned; few_actions = omega (arith, h.few) })
+    subst (λ (x : Script). Fits x) same (record { tablets = h.tablets; few_tablets = h.few_tablets; named = h.named; actions = h.actions; few_actions = omega (arith, h.few) })
 fits_on place s t (l ∷ ls) h le got = on_more place s t l ls (ltb 1000 place) (with_bytes s l) refl refl h got (λ u k less more. fits_on (place + 1) u t ls k less more)
 
 opening : SoFar 1 empty_script
@@ -183,7 +167,6 @@ opening = record {
   few_tablets = omega arith;
   named = λ unnamed. (refl, refl);
   actions = All-nil (FitsShard None);
-  one_planned = omega arith;
   few = omega arith;
 }
 

@@ -1,11 +1,11 @@
 -- What the grammar spells is read, and faults stand where it has none.
-use Rattle.std.proofs.Common.{◌≡◌, ◌≢◌, ℕ, suc, ◌+◌, ◌<◌, ◌≤◌, List, [], ◌∷◌, ◌++◌, Bool, true, false, cond, ltb, not, ◌&&◌, ◌||◌, Option, Some, None, Result, Ok, Err, length, refl, sym, ap, subst, ◌∙◌, arith}
-use Rattle.std.specs.Prelude.{All, filter, is_some, ◌==◌, nat_lt, nat_le}
-use Rattle.std.specs.List.{list_any, AllZip}
+use Rattle.std.proofs.Common.{◌≡◌, ◌≢◌, ℕ, suc, ◌+◌, ◌<◌, ◌≤◌, List, [], ◌∷◌, ◌++◌, Bool, true, false, cond, ltb, not, ◌&&◌, ◌||◌, Option, Some, None, Result, Ok, Err, length, refl, sym, ap, ◌∙◌, arith}
+use Rattle.std.specs.Prelude.{All, is_some, ◌==◌, nat_lt, nat_le}
+use Rattle.std.specs.List.{AllZip}
 use Rattle.std.specs.Str.{bytes_eq}
 use Rattle.std.proofs.lemmas.Bool.Decides.{nat_tests}
 use Rattle.std.proofs.lemmas.List.{append_assoc, append-nil, length-append}
-use Rattle.std.proofs.lemmas.List.Elements.{All-head, All-tail, filter-append}
+use Rattle.std.proofs.lemmas.List.Elements.{All-head, All-tail}
 use Rattle.std.proofs.lemmas.List.Sorted.{IsPermutation-sym, All-permutation}
 use Rattle.std.proofs.lemmas.Slice.Eq.{bytes_eq-Decides}
 use Rattle.shard_names.specs.declared.shard_name.ShardName.{ShardName}
@@ -19,7 +19,7 @@ use Rattle.shard_script.specs.declared.line.Line.TheVariants.{Shard, Tablet, Pla
 use Rattle.shard_script.specs.declared.script.Action.{Action}
 use Rattle.shard_script.specs.declared.script.Action.TheVariants as actions
 use Rattle.shard_script.specs.declared.script.Script.{Script}
-use Rattle.shard_script.specs.Script.{read_on, read_lines, with_bytes, admits, with_line, has_alias, has_server, is_shard, shard_eq, is_planned, in_place, empty_script, reading, lines_of, ended_lines, first_bytes, fault_behind}
+use Rattle.shard_script.specs.Script.{read_on, read_lines, with_bytes, admits, with_line, has_alias, has_server, is_shard, shard_eq, in_place, empty_script, reading, lines_of, ended_lines, first_bytes, fault_behind}
 use Rattle.shard_script.specs.Grammar.{IsTabletLine, IsActionLine, Says, AliasesDiffer, IsOfShard, IsShardScript, IsScript, Spell, Spells, ReadsAsSpelled}
 use Rattle.shard_script.specs.Grammar.IsScript.{is_empty, is_shard_script}
 use Rattle.shard_script.proofs.LineReads.{of_says}
@@ -86,36 +86,22 @@ tablets_on place s name (l ∷ tl) al (d ∷ ds) said named none few new aliases
 same_shard : (name : ShardName) → shard_eq name name ≡ true
 same_shard name = both (bytes_eq name.keyspace name.keyspace) (bytes_eq name.shard name.shard) ((bytes_eq-Decides name.keyspace name.keyspace).1 refl) ((bytes_eq-Decides name.shard name.shard).1 refl)
 
-no_planned : (xs : List Action) → length (filter is_planned xs) ≡ 0 → list_any is_planned xs ≡ false
-no_planned [] h = refl
-no_planned (x ∷ xs) h = by_test (is_planned x) (no_planned xs) h
-  where
-    by_test : (b : Bool) → (length (filter is_planned xs) ≡ 0 → list_any is_planned xs ≡ false) → length (cond b (x ∷ filter is_planned xs) (filter is_planned xs)) ≡ 0 → (b || list_any is_planned xs) ≡ false
-    by_test true rest k = absurd (omega (arith, k))
-    by_test false rest k = rest k
+command_admitted : (s : Script) (name : ShardName) (c : Command) (n : ℕ) → s.shard ≡ Some name → IsOfShard name (actions.Play c n) → admits s (Play c n) ≡ true
+command_admitted s name (Planned m a) n named of =
+    ap (λ (o : Option ShardName). is_shard o m) named ∙ ap (λ (k : ShardName). shard_eq name k) of ∙ same_shard name
+command_admitted s name Write n named of = ap (λ (o : Option ShardName). is_some o) named
 
-command_admitted : (s : Script) (name : ShardName) (c : Command) (n : ℕ) (xs : List Action) → s.shard ≡ Some name → IsOfShard name (actions.Play c n) → length (filter is_planned (s.actions ++ actions.Play c n ∷ xs)) ≤ 1 → admits s (Play c n) ≡ true
-command_admitted s name (Planned m a) n xs named of one =
-    let x : Action = actions.Play (Planned m a) n in
-    let split : filter is_planned (s.actions ++ x ∷ xs) ≡ filter is_planned s.actions ++ x ∷ filter is_planned xs = filter-append is_planned s.actions (x ∷ xs) in
-    let none : length (filter is_planned s.actions) ≡ 0 = omega (arith, one, ap (λ (ys : List Action). length ys) split, length-append (filter is_planned s.actions) (x ∷ filter is_planned xs)) in
-    both (is_shard s.shard m) (not (list_any is_planned s.actions))
-    (ap (λ (o : Option ShardName). is_shard o m) named ∙ ap (λ (k : ShardName). shard_eq name k) of ∙ same_shard name)
-    (ap (λ (b : Bool). not b) (no_planned s.actions none))
-command_admitted s name Write n xs named of one = ap (λ (o : Option ShardName). is_some o) named
-
-actions_on : (place : ℕ) (s : Script) (name : ShardName) (al : List (List ℕ)) (xs : List Action) → AllZip IsActionLine al xs → s.shard ≡ Some name → All (IsOfShard name) xs → length (filter is_planned (s.actions ++ xs)) ≤ 1 → place + length al ≤ 1001 → read_on place s al ≡ Ok (record s { actions = s.actions ++ xs })
-actions_on place s name [] [] said named of one lines = ap (λ (ys : List Action). Ok (record s { actions = ys })) (sym (append-nil s.actions))
-actions_on place s name [] (x ∷ xs) said named of one lines = absurd said
-actions_on place s name (l ∷ al) [] said named of one lines = absurd said
-actions_on place s name (l ∷ al) (actions.Play c n ∷ xs) said named of one lines =
+actions_on : (place : ℕ) (s : Script) (name : ShardName) (al : List (List ℕ)) (xs : List Action) → AllZip IsActionLine al xs → s.shard ≡ Some name → All (IsOfShard name) xs → place + length al ≤ 1001 → read_on place s al ≡ Ok (record s { actions = s.actions ++ xs })
+actions_on place s name [] [] said named of lines = ap (λ (ys : List Action). Ok (record s { actions = ys })) (sym (append-nil s.actions))
+actions_on place s name [] (x ∷ xs) said named of lines = absurd said
+actions_on place s name (l ∷ al) [] said named of lines = absurd said
+actions_on place s name (l ∷ al) (actions.Play c n ∷ xs) said named of lines =
     let x : Action = actions.Play c n in
     let u : Script = with_line s (Play c n) in
-    let ok : admits s (Play c n) ≡ true = command_admitted s name c n xs named (All-head (IsOfShard name) x xs of) one in
+    let ok : admits s (Play c n) ≡ true = command_admitted s name c n named (All-head (IsOfShard name) x xs of) in
     let join : (s.actions ++ x ∷ []) ++ xs ≡ s.actions ++ x ∷ xs = append_assoc s.actions (x ∷ []) xs in
-    let one_after : length (filter is_planned ((s.actions ++ x ∷ []) ++ xs)) ≤ 1 = subst (λ (ys : List Action). length (filter is_planned ys) ≤ 1) (sym join) one in
     step_on place s u l al (omega arith) (added_is s l (Play c n) said.0 ok)
-    ∙ actions_on (place + 1) u name al xs said.1 named (All-tail (IsOfShard name) x xs of) one_after (omega arith)
+    ∙ actions_on (place + 1) u name al xs said.1 named (All-tail (IsOfShard name) x xs of) (omega arith)
     ∙ ap (λ (ys : List Action). Ok (record s { actions = ys })) join
 
 -- ---- all lines
@@ -129,7 +115,7 @@ shard_read lines s few g =
     ap (λ (ls : List (List ℕ)). read_lines ls) g.split
     ∙ step_on 1 empty_script named g.first (g.tablet_lines ++ g.action_lines) (omega arith) (added_is empty_script g.first (Shard g.name) g.says_shard refl)
     ∙ tablets_on 2 named g.name g.tablet_lines g.action_lines g.declared g.say_tablets refl refl (omega (arith, g.few_tablets)) (λ k d lt. record { alias = refl; server = refl }) g.aliases_differ g.servers_differ (omega (arith, few, size, all_lines))
-    ∙ actions_on (2 + length g.tablet_lines) (record named { tablets = placed [] g.declared }) g.name g.action_lines s.actions g.say_actions refl g.of_shard g.one_planned (omega (arith, few, size, all_lines)) in
+    ∙ actions_on (2 + length g.tablet_lines) (record named { tablets = placed [] g.declared }) g.name g.action_lines s.actions g.say_actions refl g.of_shard (omega (arith, few, size, all_lines)) in
     let rise : AliasesRise (placed [] g.declared) = (fits_lines lines (record { shard = Some g.name; tablets = placed [] g.declared; actions = s.actions }) got).tablets.in_order in
     let here = permuted_all g.declared in
     let same : placed [] g.declared ≡ s.tablets = rises_once (placed [] g.declared) s.tablets rise g.in_order

@@ -1,5 +1,5 @@
 -- The grammar of a script: what each line says, and which lines make a script. The words of a line are parted by single spaces.
-use Rattle.std.specs.Prelude.{◌≡◌, ◌≢◌, ◌↔◌, ℕ, ◌+◌, ◌-◌, ◌<◌, ◌≤◌, List, [], ◌∷◌, ◌++◌, true, Some, Ok, Err, length, take, filter, All, codes, ⊤}
+use Rattle.std.specs.Prelude.{◌≡◌, ◌≢◌, ◌↔◌, ℕ, ◌+◌, ◌-◌, ◌<◌, ◌≤◌, List, [], ◌∷◌, ◌++◌, true, Some, Ok, Err, length, take, All, codes, ⊤}
 use Rattle.std.specs.Char.{is_ascii_digit}
 use Rattle.std.specs.List.{list_all, AllZip}
 use Rattle.std.specs.List.Sorted.{IsPermutation}
@@ -19,7 +19,7 @@ use Rattle.shard_script.specs.declared.script.Action.{Action}
 use Rattle.shard_script.specs.declared.script.Action.TheVariants as actions
 use Rattle.shard_script.specs.declared.script.Script.{Script}
 use Rattle.shard_script.specs.Lines.{words_of, server_reading}
-use Rattle.shard_script.specs.Script.{is_planned, empty_script, lines_of, ended_lines, first_bytes, reading}
+use Rattle.shard_script.specs.Script.{empty_script, lines_of, ended_lines, first_bytes, reading}
 
 -- `shard K/S none`
 pub record IsShardLine (line : List ℕ) (name : ShardName) : Type 0 where
@@ -100,11 +100,10 @@ pub record IsShardScript (lines : List (List ℕ)) (s : Script) : Type 0 where
   pub shard : s.shard ≡ Some name
   pub tablets : IsPermutation declared s.tablets
   pub in_order : AliasesRise s.tablets
-  -- at most 32 tablets that all differ, and at most one reparent, of this shard
+  -- at most 32 tablets that all differ, and reparents of this shard alone
   pub few_tablets : length declared ≤ 32
   pub aliases_differ : AliasesDiffer declared
   pub servers_differ : ServersDiffer declared
-  pub one_planned : length (filter is_planned s.actions) ≤ 1
   pub of_shard : All (IsOfShard name) s.actions
 
 -- lines that make a script: none at all, or those of a shard

@@ -1,5 +1,5 @@
 -- A script, and the fold over its lines that reads it.
-use Rattle.std.specs.Prelude.{◌≡◌, ℕ, ◌+◌, ◌-◌, ◌≤◌, List, [], ◌∷◌, ◌++◌, Bool, true, false, ◌&&◌, not, ◌==◌, nat_lt, nat_le, Option, Some, None, is_some, is_none, Result, Ok, Err, if◌then◌else◌, length, take, slice_index_or, filter, position, unwrap_or, All, ⊤}
+use Rattle.std.specs.Prelude.{◌≡◌, ℕ, ◌+◌, ◌-◌, ◌≤◌, List, [], ◌∷◌, ◌++◌, Bool, false, ◌&&◌, not, ◌==◌, nat_lt, nat_le, Option, Some, None, is_some, is_none, Result, Ok, Err, if◌then◌else◌, length, take, slice_index_or, position, unwrap_or, All, ⊤}
 use Rattle.std.specs.List.{list_any}
 use Rattle.std.specs.Str.{bytes_eq}
 use Rattle.std.specs.Ordering.{is_lt}
@@ -34,10 +34,6 @@ abbrev pub is_shard : Option ShardName → ShardName → Bool
 is_shard None name = false
 is_shard (Some s) name = shard_eq s name
 
-abbrev pub is_planned : Action → Bool
-is_planned (actions.Play (Planned name a) n) = true
-is_planned (actions.Play Write n) = false
-
 -- whether an alias comes before another
 abbrev pub is_below : Alias → Alias → Bool
 is_below a b = is_lt (alias_cmp a b)
@@ -56,9 +52,9 @@ abbrev pub admits_tablet : Script → TabletData → Bool
 admits_tablet s t =
     is_some s.shard && (length s.actions == 0) && nat_lt (length s.tablets) 32 && not (has_alias s.tablets t.alias) && not (has_server s.tablets t.server)
 
--- a reparent is the first one and of the declared shard, and a write stands behind the shard
+-- a reparent is of the declared shard, and a write stands behind the shard
 abbrev pub admits_command : Script → Command → Bool
-admits_command s (Planned name a) = is_shard s.shard name && not (list_any is_planned s.actions)
+admits_command s (Planned name a) = is_shard s.shard name
 admits_command s Write = is_some s.shard
 
 -- whether a line may stand behind the script so far
@@ -142,5 +138,4 @@ pub record Fits (s : Script) : Type 0 where
   pub few_tablets : length s.tablets ≤ 32
   pub named : s.shard ≡ None → (s.tablets ≡ []) × (s.actions ≡ [])
   pub actions : All (FitsShard s.shard) s.actions
-  pub one_planned : length (filter is_planned s.actions) ≤ 1
   pub few_actions : length s.actions ≤ 1000

@@ -1,8 +1,7 @@
 ghost use Rattle.std.specs.Prelude.{◌≡◌, ◌≤◌, ◌<◌, ◌==◌, map, position, length, IfOk, IfSome, OnOk, Some, None, if◌then◌else◌};
-ghost use Rattle.std.specs.List.{list_any};
 ghost use Rattle.std.specs.Str.{bytes_eq};
 ghost use Rattle.shard_names.specs.Tablets.{alias_eq};
-ghost use Rattle.shard_script.specs.Script.{first_bytes, place_among, has_alias, has_server, shard_eq, is_shard, is_planned, is_below, in_place, admits_tablet, admits_command, admits, with_line, with_bytes, lines_of, ended_lines, read_on, read_lines, reading, Gives, Fits};
+ghost use Rattle.shard_script.specs.Script.{first_bytes, place_among, has_alias, has_server, shard_eq, is_shard, is_below, in_place, admits_tablet, admits_command, admits, with_line, with_bytes, lines_of, ended_lines, read_on, read_lines, reading, Gives, Fits};
 
 use crate::line::{Line, parts_of, read_line};
 use shard_base::{Items, OutOfMemory};
@@ -90,27 +89,6 @@ fn is_shard(shard: &Option<ShardName>, name: &ShardName) -> bool
     }
 }
 
-fn is_planned(action: &Action) -> bool
-    ensures { result ≡ is_planned action.now }
-{
-    match action {
-        Action::Play {
-            command: Command::Planned { .. },
-            ..
-        } => true,
-        Action::Play {
-            command: Command::Write,
-            ..
-        } => false,
-    }
-}
-
-fn has_planned(actions: &[Action]) -> bool
-    ensures { result ≡ list_any is_planned actions.now }
-{
-    actions.iter().any(|action| is_planned(action))
-}
-
 /// The most tablets of a script.
 const MOST_TABLETS: usize = 32;
 
@@ -134,9 +112,7 @@ fn admits_command(script: &Script, command: &Command) -> bool
     ensures { result ≡ admits_command script.now command.now }
 {
     match command {
-        Command::Planned { shard, .. } => {
-            is_shard(&script.shard, shard) && !has_planned(script.actions.as_slice())
-        }
+        Command::Planned { shard, .. } => is_shard(&script.shard, shard),
         Command::Write => script.shard.is_some(),
     }
 }

@@ -1,25 +1,24 @@
 -- How a shard goes on by events.
 use Rattle.std.proofs.Common.{◌≡◌, ℕ, suc, ◌+◌, List, [], ◌∷◌, ◌++◌, Result, Ok, Err, OnOk, OnErr, length, refl, ap, sym, subst, ◌∙◌, length-append}
 use Rattle.std.proofs.lemmas.List.{append_assoc, append-nil}
-use Rattle.shard_names.specs.declared.tablet.Tablet.{Tablet}
 use Rattle.shard_core.specs.World.{Config, World, opening}
 use Rattle.shard_core.specs.Table.{after, step_of, world_after}
-use Rattle.shard_core.specs.Kept.{Kept, Makes, config_of, world_of}
+use Rattle.shard_core.specs.Kept.{Kept, Makes, world_of}
 use Rattle.shard_core.specs.declared.event.Event.{Event}
 use Rattle.shard_core.specs.declared.event.Step.{Step}
-use Rattle.shard_core.proofs.RunLemmas.{world_after-push}
 use Rattle.shard_top.specs.Played.{steps_by, world_by}
-use Rattle.shard_top.specs.Goes.{Goes, GoesUpTo}
+use Rattle.shard_top.specs.Goes.{Goes, GoesUpTo, AreMet, MayGo}
 
-pub config_makes : (old new : Kept) (e : Event) → Makes old new e → config_of new ≡ config_of old
-config_makes old new e m = ap (λ (ts : List Tablet). let c : Config = record { tablets = ts } in c) m.tablets
+world_after-push : (config : Config) (w : World) (ss : List Step) (s : Step) → world_after config w (ss ++ s ∷ []) ≡ after config (world_after config w ss) s.event
+world_after-push config w [] s = refl
+world_after-push config w (x ∷ ss) s = world_after-push config (after config w x.event) ss s
 
 -- the world after a step
-pub world_makes : (old new : Kept) (e : Event) → Makes old new e → world_of new ≡ after (config_of old) (world_of old) e
+pub world_makes : (old new : Kept) (e : Event) → Makes old new e → world_of new ≡ after old.config (world_of old) e
 world_makes old new e m =
-    ap (λ (c : Config). world_after c opening new.steps) (config_makes old new e m)
-    ∙ ap (λ (ss : List Step). world_after (config_of old) opening ss) m.steps
-    ∙ world_after-push (config_of old) opening old.steps (step_of (config_of old) (world_of old) e)
+    ap (λ (c : Config). world_after c (opening c) new.steps) m.config
+    ∙ ap (λ (ss : List Step). world_after old.config (opening old.config) ss) m.steps
+    ∙ world_after-push old.config (opening old.config) old.steps (step_of old.config (world_of old) e)
 
 world_after-append : (config : Config) (w : World) (xs ys : List Step) → world_after config w (xs ++ ys) ≡ world_after config (world_after config w xs) ys
 world_after-append config w [] ys = refl
@@ -37,35 +36,32 @@ pub length-steps_by : (config : Config) (w : World) (es : List Event) → length
 length-steps_by config w [] = refl
 length-steps_by config w (e ∷ es) = ap (λ (n : ℕ). suc n) (length-steps_by config (after config w e) es)
 
-pub config_goes : (a b : Kept) (es : List Event) → Goes a b es → config_of b ≡ config_of a
-config_goes a b es g = ap (λ (ts : List Tablet). let c : Config = record { tablets = ts } in c) g.tablets
-
 -- the world after events
-pub world_goes : (a b : Kept) (es : List Event) → Goes a b es → world_of b ≡ world_by (config_of a) (world_of a) es
+pub world_goes : (a b : Kept) (es : List Event) → Goes a b es → world_of b ≡ world_by a.config (world_of a) es
 world_goes a b es g =
-    ap (λ (c : Config). world_after c opening b.steps) (config_goes a b es g)
-    ∙ ap (λ (ss : List Step). world_after (config_of a) opening ss) g.steps
-    ∙ world_after-append (config_of a) opening a.steps (steps_by (config_of a) (world_of a) es)
-    ∙ world_after-steps_by (config_of a) (world_of a) es
+    ap (λ (c : Config). world_after c (opening c) b.steps) g.config
+    ∙ ap (λ (ss : List Step). world_after a.config (opening a.config) ss) g.steps
+    ∙ world_after-append a.config (opening a.config) a.steps (steps_by a.config (world_of a) es)
+    ∙ world_after-steps_by a.config (world_of a) es
 
 pub length_goes : (a b : Kept) (es : List Event) → Goes a b es → length b.steps ≡ length a.steps + length es
 length_goes a b es g =
-    ap (λ (ss : List Step). length ss) g.steps ∙ length-append a.steps (steps_by (config_of a) (world_of a) es)
-    ∙ ap (λ (n : ℕ). length a.steps + n) (length-steps_by (config_of a) (world_of a) es)
+    ap (λ (ss : List Step). length ss) g.steps ∙ length-append a.steps (steps_by a.config (world_of a) es)
+    ∙ ap (λ (n : ℕ). length a.steps + n) (length-steps_by a.config (world_of a) es)
 
 pub goes_none : (a : Kept) → Goes a a []
-goes_none a = record { tablets = refl; steps = sym (append-nil a.steps) }
+goes_none a = record { config = refl; steps = sym (append-nil a.steps) }
 
 pub goes_one : (a b : Kept) (e : Event) → Makes a b e → Goes a b (e ∷ [])
-goes_one a b e m = record { tablets = m.tablets; steps = m.steps }
+goes_one a b e m = record { config = m.config; steps = m.steps }
 
 pub goes_more : (a b c : Kept) (es fs : List Event) → Goes a b es → Goes b c fs → Goes a c (es ++ fs)
 goes_more a b c es fs f g =
-    let config : Config = config_of a in
-    let there : steps_by (config_of b) (world_of b) fs ≡ steps_by config (world_by config (world_of a) es) fs =
-    ap (λ (k : Config). steps_by k (world_of b) fs) (config_goes a b es f) ∙ ap (λ (w : World). steps_by config w fs) (world_goes a b es f) in
+    let config : Config = a.config in
+    let there : steps_by b.config (world_of b) fs ≡ steps_by config (world_by config (world_of a) es) fs =
+    ap (λ (k : Config). steps_by k (world_of b) fs) f.config ∙ ap (λ (w : World). steps_by config w fs) (world_goes a b es f) in
     record {
-      tablets = g.tablets ∙ f.tablets;
+      config = g.config ∙ f.config;
       steps = g.steps ∙ ap (λ (ss : List Step). b.steps ++ ss) there
           ∙ ap (λ (ss : List Step). ss ++ steps_by config (world_by config (world_of a) es) fs) f.steps
           ∙ append_assoc a.steps (steps_by config (world_of a) es) _
@@ -115,3 +111,11 @@ up_to (Err e) a b c es whole same part = subst (λ (k : Kept). GoesUpTo a k es) 
 pub on_ok_map : {T E P Q : Type 0} (r : Result T E) → (P → Q) → OnOk r P → OnOk r Q
 on_ok_map (Ok x) f h = f h
 on_ok_map (Err e) f h = h
+
+-- ---- what may still be made
+
+pub may_rest : (a b : Kept) (e : Event) (es : List Event) → MayGo a (e ∷ es) → Makes a b e → MayGo b es
+may_rest a b e es may m =
+    let config : b.config ≡ a.config = m.config in
+    let world : world_of b ≡ after a.config (world_of a) e = world_makes a b e m in
+    subst (λ (c : Config). AreMet c (world_of b) es) (sym config) (subst (λ (w : World). AreMet a.config w es) (sym world) may.1)

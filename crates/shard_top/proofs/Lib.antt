@@ -1,6 +1,8 @@
 pub mod StreamLemmas
 pub mod GoLemmas
 pub mod MetLemmas
+pub mod StageLemmas
+pub mod RunLemmas
 pub mod CourseLemmas
 pub mod ReadyLemmas
 pub mod PlayLemmas

@@ -1,20 +1,20 @@
 -- How a shard goes on by events, and what a course needs of it.
-use Rattle.std.specs.Prelude.{◌≡◌, ℕ, ◌+◌, ◌*◌, ◌≤◌, List, [], ◌∷◌, ◌++◌, Option, Some, None}
-use Rattle.shard_names.specs.declared.alias.Alias.{Alias}
-use Rattle.shard_names.specs.declared.shard_name.ShardName.{ShardName}
-use Rattle.shard_core.specs.World.{World}
-use Rattle.shard_core.specs.Kept.{Kept, config_of, world_of}
-use Rattle.shard_core.specs.declared.command.Command.{Command}
-use Rattle.shard_core.specs.declared.command.Command.TheVariants.{Planned, Write}
+use Rattle.std.specs.Prelude.{◌≡◌, ℕ, ◌+◌, Bool, true, false, List, [], ◌∷◌, ◌++◌, Option, None, IfSome, ⊤}
+use Rattle.shard_names.specs.Tablets.{is_declared}
+use Rattle.topo_lock.specs.Topology.{is_held_in, last_intent}
+use Rattle.shard_core.specs.World.{Config, World, main_name, term_of}
+use Rattle.shard_core.specs.Table.{Met, after, by_term}
+use Rattle.shard_core.specs.Kept.{Kept, world_of}
 use Rattle.shard_core.specs.declared.event.Event.{Event}
+use Rattle.shard_core.specs.declared.world.ActorState.{ActorState}
 use Rattle.shard_script.specs.declared.script.Action.{Action}
 use Rattle.shard_script.specs.declared.script.Action.TheVariants as actions
 use Rattle.shard_top.specs.Played.{steps_by}
 
 -- these events were made
 pub record Goes (old new : Kept) (events : List Event) : Type 0 where
-  pub tablets : new.tablets ≡ old.tablets
-  pub steps : new.steps ≡ old.steps ++ steps_by (config_of old) (world_of old) events
+  pub config : new.config ≡ old.config
+  pub steps : new.steps ≡ old.steps ++ steps_by old.config (world_of old) events
 
 -- the first of these events were made
 pub record GoesUpTo (old new : Kept) (events : List Event) : Type 0 where
@@ -23,21 +23,13 @@ pub record GoesUpTo (old new : Kept) (events : List Event) : Type 0 where
   pub split : events ≡ made ++ rest
   pub goes : Goes old new made
 
--- how many reparents may still come: one before the record, none after it
-abbrev pub may_come : Option Alias → ℕ
-may_come None = 1
-may_come (Some a) = 0
+-- each of these events may be made after those before it
+abbrev pub AreMet : Config → World → List Event → Type 0
+AreMet config w [] = ⊤
+AreMet config w (e ∷ es) = Met config w e × AreMet config (after config w e) es
 
-abbrev pub is_reparent : Command → ℕ
-is_reparent (Planned shard a) = 1
-is_reparent Write = 0
-
-abbrev pub reparents_of : Action → ℕ
-reparents_of (actions.Play command count) = is_reparent command * count
-
-abbrev pub reparents_in : List Action → ℕ
-reparents_in [] = 0
-reparents_in (x ∷ xs) = reparents_of x + reparents_in xs
+abbrev pub MayGo : Kept → List Event → Type 0
+MayGo k events = AreMet k.config (world_of k) events
 
 -- so many commands are given
 abbrev pub commands_by : Action → ℕ
@@ -47,16 +39,18 @@ abbrev pub commands_in : List Action → ℕ
 commands_in [] = 0
 commands_in (x ∷ xs) = commands_by x + commands_in xs
 
--- no command is open, and so many reparents may still come
-pub record IsReady (w : World) (reparents : ℕ) : Type 0 where
-  pub idle : w.pending ≡ None
-  pub first : reparents ≤ may_come w.recorded
+-- `main` as the one actor, with this command open, who has begun so many writes
+abbrev pub only_main : Option ℕ → ℕ → List ActorState
+only_main pending writes = record { name = main_name; pending = pending; writes = writes } ∷ []
 
--- the open command of this number is a reparent to this tablet, and has written nothing
-pub record IsReparentTo (w : World) (c : ℕ) (a : Alias) : Type 0 where
-  pub shard : ShardName
-  pub is_open : w.pending ≡ Some (record { number = c; command = Planned shard a; wrote = None })
+-- No command is open, and nobody holds the lock. Nothing is promoted before the first intent, and a tablet that is recorded is declared.
+pub record IsReady (config : Config) (w : World) : Type 0 where
+  pub writes : ℕ
+  pub actors : w.actors ≡ only_main None writes
+  pub free : w.topo.holder ≡ None
+  pub unpromoted : last_intent w.topo ≡ None → w.promoted ≡ false
+  pub declared : IfSome w.topo.recorded (λ r. is_declared config.tablets r.alias ≡ true)
 
--- the open command of this number is a write, and has written nothing
-pub record IsOpenWrite (w : World) (c : ℕ) : Type 0 where
-  pub is_open : w.pending ≡ Some (record { number = c; command = Write; wrote = None })
+-- the command holds the lock
+abbrev pub holds_lock : World → ℕ → Bool
+holds_lock w c = by_term (term_of w c) false (is_held_in w.topo)

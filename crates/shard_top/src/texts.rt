@@ -1,18 +1,26 @@
-ghost use Rattle.std.specs.Prelude.{◌≡◌, ◌++◌, IfOk, OnOk, Some, codes};
+ghost use Rattle.std.specs.Prelude.{◌≡◌, ◌++◌, ◌∷◌, [], IfOk, OnOk, Some, codes};
 ghost use Rattle.std.specs.Option.{option_copied};
 ghost use Rattle.std.specs.List.{flat_map};
 ghost use Rattle.std.specs.Fmt.{decimal};
+ghost use Rattle.std.specs.Str.{bytes_eq};
 ghost use Rattle.shard_names.specs.Alias.{alias_text};
-ghost use Rattle.shard_core.specs.Answered.{begun_by, commands_of, numbered};
-ghost use Rattle.shard_top.specs.Texts.{head_text, bar_text, refusal_text, said_text, answer_text, event_text, text_of, is_refused, refuses, has_refusal, usage_text, fault_text, read_fault_text};
+ghost use Rattle.shard_core.specs.World.{main_name, numbered};
+ghost use Rattle.shard_top.specs.Texts.{begun_by, commands_of, prefix_text, command_text, head_text, bar_text, lock_taken_text, lock_lost_text, no_such_tablet_text, not_eligible_text, not_built_text, refusal_text, said_text, answer_text, event_text, text_of, is_refused, refuses, has_refusal, usage_text, fault_text, read_fault_text};
 ghost use Rattle.shard_core.specs.declared.command.CommandAnswer.TheVariants as answers;
 
 use gtid_sets::Gtid;
 use itoa::Buffer;
 use shard_base::OutOfMemory;
 use shard_core::{Bar, Command, CommandAnswer, Event, Refusal, Step};
-use shard_names::Alias;
+use shard_names::{Alias, Name};
 use std::alloc::Global;
+
+/// A command that began, and the actor who gave it.
+#[derive(Clone, Copy)]
+pub(crate) struct Begun {
+    pub(crate) actor: Name,
+    pub(crate) command: Command,
+}
 
 /// Appends the decimal digits.
 fn write_number(number: u64, into: &mut Vec<u8>) -> Result<(), OutOfMemory>
@@ -23,10 +31,30 @@ fn write_number(number: u64, into: &mut Vec<u8>) -> Result<(), OutOfMemory>
     Ok(())
 }
 
+fn is_main(actor: &[u8]) -> bool
+    ensures { result ≡ bytes_eq actor.now main_name }
+{
+    actor == b"main".as_slice()
+}
+
+/// Appends the actor who gave a command, unless it is `main`.
+#[tactic(auto, unfolding(crate::specs::Texts::prefix_text))]
+fn write_prefix(actor: &[u8], into: &mut Vec<u8>) -> Result<(), OutOfMemory>
+    ensures { OnOk result (into.new.items ≡ into.old.items ++ prefix_text actor.now) }
+{
+    if is_main(actor) {
+        return Ok(());
+    }
+    into.extend_from_slice(b"[")?;
+    into.extend_from_slice(actor)?;
+    into.extend_from_slice(b"] ")?;
+    Ok(())
+}
+
 /// Appends the command's word, and the shard that it was given.
-#[tactic(auto, unfolding(crate::specs::Texts::head_text))]
-fn write_head(command: &Command, into: &mut Vec<u8>) -> Result<(), OutOfMemory>
-    ensures { OnOk result (into.new.items ≡ into.old.items ++ head_text (Some command.now)) }
+#[tactic(auto, unfolding(crate::specs::Texts::command_text))]
+fn write_command(command: &Command, into: &mut Vec<u8>) -> Result<(), OutOfMemory>
+    ensures { OnOk result (into.new.items ≡ into.old.items ++ command_text command.now) }
 {
     match command {
         Command::Planned { shard, .. } => {
@@ -40,6 +68,14 @@ fn write_head(command: &Command, into: &mut Vec<u8>) -> Result<(), OutOfMemory>
     }
 }
 
+#[tactic(auto, unfolding(crate::specs::Texts::head_text))]
+fn write_head(begun: &Begun, into: &mut Vec<u8>) -> Result<(), OutOfMemory>
+    ensures { OnOk result (into.new.items ≡ into.old.items ++ head_text (Some begun.now)) }
+{
+    write_prefix(begun.actor.as_slice(), into)?;
+    write_command(&begun.command, into)
+}
+
 fn write_bar(bar: &Bar, into: &mut Vec<u8>) -> Result<(), OutOfMemory>
     ensures { OnOk result (into.new.items ≡ into.old.items ++ bar_text bar.now) }
 {
@@ -51,22 +87,61 @@ fn write_bar(bar: &Bar, into: &mut Vec<u8>) -> Result<(), OutOfMemory>
     }
 }
 
+#[tactic(auto, unfolding(crate::specs::Texts::lock_taken_text))]
+fn write_lock_taken(term: u64, by: &[u8], into: &mut Vec<u8>) -> Result<(), OutOfMemory>
+    ensures { OnOk result (into.new.items ≡ into.old.items ++ lock_taken_text term by.now) }
+{
+    into.extend_from_slice(b"1 LockTaken: term ")?;
+    write_number(term, into)?;
+    into.extend_from_slice(b" by ")?;
+    into.extend_from_slice(by)?;
+    Ok(())
+}
+
+#[tactic(auto, unfolding(crate::specs::Texts::lock_lost_text))]
+fn write_lock_lost(term: u64, into: &mut Vec<u8>) -> Result<(), OutOfMemory>
+    ensures { OnOk result (into.new.items ≡ into.old.items ++ lock_lost_text term) }
+{
+    into.extend_from_slice(b"2 LockLost: topology is at term ")?;
+    write_number(term, into)
+}
+
+#[tactic(auto, unfolding(crate::specs::Texts::no_such_tablet_text))]
+fn write_no_such_tablet(alias: &Alias, into: &mut Vec<u8>) -> Result<(), OutOfMemory>
+    ensures { OnOk result (into.new.items ≡ into.old.items ++ no_such_tablet_text alias.now) }
+{
+    into.extend_from_slice(b"3 NoSuchTablet: ")?;
+    alias.write(into)
+}
+
+#[tactic(auto, unfolding(crate::specs::Texts::not_eligible_text))]
+fn write_not_eligible(alias: &Alias, bar: &Bar, into: &mut Vec<u8>) -> Result<(), OutOfMemory>
+    ensures { OnOk result (into.new.items ≡ into.old.items ++ not_eligible_text alias.now bar.now) }
+{
+    into.extend_from_slice(b"4 NotEligible: ")?;
+    alias.write(into)?;
+    into.extend_from_slice(b" ")?;
+    write_bar(bar, into)
+}
+
+#[tactic(auto, unfolding(crate::specs::Texts::not_built_text))]
+fn write_not_built(term: u64, into: &mut Vec<u8>) -> Result<(), OutOfMemory>
+    ensures { OnOk result (into.new.items ≡ into.old.items ++ not_built_text term) }
+{
+    into.extend_from_slice(b"21 NotBuilt: intent of term ")?;
+    write_number(term, into)
+}
+
 /// Appends the number and the text of a refusal.
-#[tactic(auto, unfolding(crate::specs::Texts::refusal_text))]
 fn write_refusal(refusal: &Refusal, into: &mut Vec<u8>) -> Result<(), OutOfMemory>
     ensures { OnOk result (into.new.items ≡ into.old.items ++ refusal_text refusal.now) }
 {
     match refusal {
-        Refusal::NoSuchTablet { alias } => {
-            into.extend_from_slice(b"3 NoSuchTablet: ")?;
-            alias.write(into)
-        }
-        Refusal::NotEligible { alias, bar } => {
-            into.extend_from_slice(b"4 NotEligible: ")?;
-            alias.write(into)?;
-            into.extend_from_slice(b" ")?;
-            write_bar(bar, into)
-        }
+        Refusal::LockTaken { term, by } => write_lock_taken(*term, by.as_slice(), into),
+        Refusal::LockLost { term } => write_lock_lost(*term, into),
+        Refusal::NoSuchTablet { alias } => write_no_such_tablet(alias, into),
+        Refusal::NotEligible { alias, bar } => write_not_eligible(alias, bar, into),
+        Refusal::NotBuilt { term } => write_not_built(*term, into),
     }
 }
 
@@ -76,7 +151,7 @@ fn write_in_term(alias: &Alias, term: u64, into: &mut Vec<u8>) -> Result<(), Out
 {
     alias.write(into)?;
     into.extend_from_slice(b" in term ")?;
-    write_number(term, into)
+    write_number(term, into) // the answer's own term
 }
 
 #[tactic(auto, unfolding(crate::specs::Texts::said_text))]
@@ -124,14 +199,14 @@ fn write_said(answer: &CommandAnswer, into: &mut Vec<u8>) -> Result<(), OutOfMem
 /// Appends the line of an answer.
 #[tactic(auto, unfolding(crate::specs::Texts::answer_text, crate::specs::Texts::head_text))]
 fn write_answer(
-    command: Option<&Command>,
+    begun: Option<&Begun>,
     answer: &CommandAnswer,
     into: &mut Vec<u8>,
 ) -> Result<(), OutOfMemory>
-    ensures { OnOk result (into.new.items ≡ into.old.items ++ answer_text (option_copied command.entry) answer.now) }
+    ensures { OnOk result (into.new.items ≡ into.old.items ++ answer_text (option_copied begun.entry) answer.now) }
 {
-    if let Some(command) = command {
-        write_head(command, into)?;
+    if let Some(begun) = begun {
+        write_head(begun, into)?;
     }
     into.extend_from_slice(b": ")?;
     write_said(answer, into)?;
@@ -139,23 +214,41 @@ fn write_answer(
     Ok(())
 }
 
+fn push_command(
+    commands: &mut Vec<Begun>,
+    actor: &Name,
+    command: &Command,
+) -> Result<(), OutOfMemory>
+    ensures { OnOk result (commands.new.items ≡ commands.old.items ++ record { actor = actor.now; command = command.now } ∷ []) }
+{
+    commands.push(Begun {
+        actor: *actor,
+        command: *command,
+    })?;
+    Ok(())
+}
+
 /// Adds the command that an event begins, if it does.
-fn push_begun(commands: &mut Vec<Command>, event: &Event) -> Result<(), OutOfMemory>
+fn push_begun(commands: &mut Vec<Begun>, event: &Event) -> Result<(), OutOfMemory>
     ensures { OnOk result (commands.new.items ≡ commands.old.items ++ begun_by event.now) }
 {
     match event {
-        Event::Begin { command } => {
-            commands.push(*command)?;
-            Ok(())
-        }
+        Event::Begin { actor, command } => push_command(commands, actor, command),
+        Event::Take { .. } => Ok(()),
+        Event::Read { .. } => Ok(()),
+        Event::Intend { .. } => Ok(()),
         Event::Promote { .. } => Ok(()),
+        Event::Record { .. } => Ok(()),
+        Event::Release { .. } => Ok(()),
+        Event::Lapse => Ok(()),
         Event::Write { .. } => Ok(()),
+        Event::Tick { .. } => Ok(()),
         Event::End { .. } => Ok(()),
     }
 }
 
 /// The commands that begin, in order.
-fn commands_of(alloc: Global, steps: &[Step]) -> Result<Vec<Command>, OutOfMemory>
+fn commands_of(alloc: Global, steps: &[Step]) -> Result<Vec<Begun>, OutOfMemory>
     ensures { IfOk result (λ commands. commands.items ≡ commands_of steps.now) }
 {
     let mut commands = Vec::new(alloc);
@@ -166,7 +259,7 @@ fn commands_of(alloc: Global, steps: &[Step]) -> Result<Vec<Command>, OutOfMemor
 }
 
 /// The command of a number, counted from 1.
-fn command_at(commands: &[Command], number: u64) -> Option<&Command>
+fn command_at(commands: &[Begun], number: u64) -> Option<&Begun>
     ensures { option_copied result ≡ numbered commands.now number }
 {
     if number == 0 {
@@ -175,7 +268,7 @@ fn command_at(commands: &[Command], number: u64) -> Option<&Command>
     commands.get(number as usize - 1)
 }
 
-fn write_event(commands: &[Command], event: &Event, into: &mut Vec<u8>) -> Result<(), OutOfMemory>
+fn write_event(commands: &[Begun], event: &Event, into: &mut Vec<u8>) -> Result<(), OutOfMemory>
     ensures { OnOk result (into.new.items ≡ into.old.items ++ event_text commands.now event.now) }
 {
     match event {
@@ -183,12 +276,19 @@ fn write_event(commands: &[Command], event: &Event, into: &mut Vec<u8>) -> Resul
             write_answer(command_at(commands, *command), answer, into)
         }
         Event::Begin { .. } => Ok(()),
+        Event::Take { .. } => Ok(()),
+        Event::Read { .. } => Ok(()),
+        Event::Intend { .. } => Ok(()),
         Event::Promote { .. } => Ok(()),
+        Event::Record { .. } => Ok(()),
+        Event::Release { .. } => Ok(()),
+        Event::Lapse => Ok(()),
         Event::Write { .. } => Ok(()),
+        Event::Tick { .. } => Ok(()),
     }
 }
 
-fn write_events(alloc: Global, commands: &[Command], steps: &[Step]) -> Result<Vec<u8>, OutOfMemory>
+fn write_events(alloc: Global, commands: &[Begun], steps: &[Step]) -> Result<Vec<u8>, OutOfMemory>
     ensures { IfOk result (λ text. text.items ≡ flat_map (λ s. event_text commands.now s.event) steps.now) }
 {
     let mut text = Vec::new(alloc);
@@ -223,8 +323,15 @@ fn refuses(event: &Event) -> bool
     match event {
         Event::End { answer, .. } => is_refused(answer),
         Event::Begin { .. } => false,
+        Event::Take { .. } => false,
+        Event::Read { .. } => false,
+        Event::Intend { .. } => false,
         Event::Promote { .. } => false,
+        Event::Record { .. } => false,
+        Event::Release { .. } => false,
+        Event::Lapse => false,
         Event::Write { .. } => false,
+        Event::Tick { .. } => false,
     }
 }
 

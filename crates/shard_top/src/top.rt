@@ -1,7 +1,7 @@
 ghost use Rattle.std.specs.Prelude.{◌≡◌, ◌≢◌, ◌≤◌, ◌<◌, [], List, ℕ, map, IsOkAnd, IsSome, MatchResult};
 ghost use Rattle.std.specs.Io.KnownBytes.{Appends};
 ghost use Rattle.shard_base.specs.Faults.{Rose, Calm};
-ghost use Rattle.shard_names.specs.declared.tablet.Tablet.{Tablet as ATablet};
+ghost use Rattle.shard_core.specs.World.{Config};
 ghost use Rattle.shard_script.specs.Script.{Fits, reading};
 ghost use Rattle.shard_top.specs.Streams.{AppendsFront, WasRead};
 ghost use Rattle.shard_top.specs.Texts.{read_fault_text, text_of, status_of};
@@ -9,7 +9,7 @@ ghost use Rattle.shard_top.specs.Words.{usage_fault};
 ghost use Rattle.shard_top.specs.Program.{answer_to, answer_to_reading, answer_to_script, Answers};
 ghost use Rattle.shard_core.specs.Kept.{IsSafe};
 
-use crate::playing::play;
+use crate::playing::{first_moment, play};
 use crate::sink::{Sink, put_all};
 use crate::source::{ReadFault, Source, read_all};
 use crate::texts::{fault_text, has_refusal, read_fault_text, text_of, usage_text};
@@ -93,7 +93,7 @@ fn run_script<O: Sink>(alloc: Global, script: &Script, output: &mut O) -> Outcom
     ensures failed { O.faults output.old < O.faults output.new → result.status ≡ 5 }
     ensures not_read { result.status ≢ 4 }
 {
-    let mut shard = match Shard::new(alloc, script.tablets.as_slice()) {
+    let mut shard = match Shard::new(alloc, script.tablets.as_slice(), first_moment()) {
         Ok(shard) => shard,
         Err(_) => return ended(alloc, 6),
     };
@@ -143,7 +143,7 @@ pub fn step_words<I: Source, O: Sink>(
     ensures write { result.status ≡ 5 → Rose (O.faults output.old) (O.faults output.new) }
 
     // Whatever the streams did, the history is a run of the machine.
-    ensures safe { (tablets : List ATablet) × IsSafe tablets result.history.steps }
+    ensures safe { (config : Config) × IsSafe config result.history.steps }
 {
     if let Some(word) = usage_fault(words) {
         let status = say(output, usage_text(alloc, word), 2);
@@ -180,7 +180,7 @@ pub fn vtshard_words<I: Source, O: Sink>(
     ensures write { result.status ≡ 5 → Rose (O.faults output.old) (O.faults output.new) }
 
     // Whatever the streams did, the history is a run of the machine.
-    ensures safe { (tablets : List ATablet) × IsSafe tablets result.history.steps }
+    ensures safe { (config : Config) × IsSafe config result.history.steps }
 {
     step_words(alloc, words, input, output)
 }

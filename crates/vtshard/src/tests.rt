@@ -128,6 +128,18 @@ PlannedReparentShard commerce/0 --new-primary zone1-103\n",
             printed: no_primary,
             status: 1,
         },
+        Row {
+            script: &[
+                THREE_REPLICAS,
+                "PlannedReparentShard commerce/0 --new-primary zone1-100
+PlannedReparentShard commerce/0 --new-primary zone1-101
+",
+            ],
+            printed: "PlannedReparentShard commerce/0: promoted zone1-0000000100 in term 1
+PlannedReparentShard commerce/0: refused 21 NotBuilt: intent of term 1
+",
+            status: 1,
+        },
     ];
     plays(&rt, rt.alloc(), &rows)
 }

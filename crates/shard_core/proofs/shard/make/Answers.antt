@@ -1,12 +1,22 @@
-use Rattle.std.proofs.Common.{length, arith}
-use Rattle.shard_core.specs.Places.{data_of}
+use Rattle.std.proofs.Common.{◌∷◌, [], ◌++◌, length, ap, subst, ◌∙◌, arith}
+use Rattle.shard_core.specs.declared.event.Step.{Step}
+use Rattle.shard_core.specs.Places.{Becomes, data_of}
 use Rattle.shard_core.proofs.CountLemmas.{counted_more}
+use Rattle.shard_core.proofs.FewLemmas.{few_more}
 use Rattle.shard_core.proofs.RunLemmas.{leads_on}
 use Rattle.shard_core.proofs.shard.make.Goals as goal
 
-pub answer-reply-requires-clause-counted : goal.answer-reply-requires-clause-counted
-answer-reply-requires-clause-counted c =
+pub step_of-step-requires-clause-few : goal.step_of-step-requires-clause-few
+step_of-step-requires-clause-few c =
+    few_more (length c.args.steps.now) 1048576 (data_of c.args.fields.now) (omega (arith, c.requires.leads.room)) c.requires.leads.few
+
+pub step_of-step-requires-clause-counted : goal.step_of-step-requires-clause-counted
+step_of-step-requires-clause-counted c =
     counted_more (length c.args.steps.now) 18446744073709551614 c.args.fields.now.places.items (omega (arith, c.requires.leads.room)) c.requires.leads.counted
+
+pub change-requires-clause-few : goal.change-requires-clause-few
+change-requires-clause-few c =
+    few_more (length c.args.steps.now) 1048576 (data_of c.args.fields.now) (omega (arith, c.requires.leads.room)) c.requires.leads.few
 
 pub change-requires-clause-counted : goal.change-requires-clause-counted
 change-requires-clause-counted c =
@@ -14,5 +24,7 @@ change-requires-clause-counted c =
 
 pub returns-in-Ok-clause-leads : goal.returns-in-Ok-clause-leads
 returns-in-Ok-clause-leads c =
+    let is = c.step_of-step.ensures in
     leads_on (data_of c.args.fields.now) (data_of c.change.new.fields) c.args.steps.now c.push_step.new.steps c.args.event.now c.requires.leads c.requires.room c.requires.met
-    c.in-Ok.ensures.ok (rw (← c.answer-reply.ensures) c.in_ok-push_step.ensures.ok)
+    (subst (λ (s : Step). Becomes (data_of c.args.fields.now) (data_of c.change.new.fields) s c.args.event.now) is c.in-Ok.ensures.ok)
+    (c.in_ok-push_step.ensures.ok ∙ ap (λ (s : Step). c.args.steps.now ++ s ∷ []) is)

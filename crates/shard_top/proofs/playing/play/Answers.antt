@@ -13,7 +13,7 @@ loop-action-preserved c =
 pub play_action-requires-clause-ready : goal.play_action-requires-clause-ready
 play_action-requires-clause-ready c =
     let l = at_place c.args.shard.now c.loop-action.shard c.args.script.now.actions c.loop-action.action-index c.action-item.result _ (rw c.as_slice-action-items.ensures at c.loop-action-test.true) (rw c.as_slice-action-items.ensures at c.action-item.is) c.loop-action.invariant in
-    play_next c.args.shard.now c.loop-action.shard c.action-item.result _ _ l
+    play_next c.args.shard.now c.loop-action.shard _ _ l
 
 pub play_action-requires-clause-room : goal.play_action-requires-clause-room
 play_action-requires-clause-room c =

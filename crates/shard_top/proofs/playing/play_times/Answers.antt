@@ -12,9 +12,7 @@ loop-turn-preserved c =
     times_on c.args.shard.now c.loop-turn.shard c.play_command.new.shard c.args.command.now c.args.count _ _ _ e c.loop-turn.invariant c.in_ok-play_command.ensures.ok
 
 pub play_command-requires-clause-ready : goal.play_command-requires-clause-ready
-play_command-requires-clause-ready c =
-    let e : c.args.count - c.loop-turn._turn ≡ suc (c.args.count - (c.loop-turn._turn + 1)) = omega (arith, c.loop-turn-test.true) in
-    times_next c.args.shard.now c.loop-turn.shard c.args.command.now c.args.count _ _ _ e c.loop-turn.invariant
+play_command-requires-clause-ready c = times_next c.args.shard.now c.loop-turn.shard c.args.command.now c.args.count _ _ c.loop-turn.invariant
 
 pub play_command-requires-clause-room : goal.play_command-requires-clause-room
 play_command-requires-clause-room c = omega (arith, c.loop-turn.invariant.room, c.loop-turn-test.true, c.requires.room)

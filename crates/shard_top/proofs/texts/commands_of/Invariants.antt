@@ -1,5 +1,5 @@
 use Rattle.std.proofs.Common.{◌≡◌, take}
-use Rattle.shard_core.specs.Answered.{commands_of}
+use Rattle.shard_top.specs.Texts.{commands_of}
 use Rattle.shard_top.proofs.texts.commands_of.Given as goal
 
 abbrev pub invariant-loop-step : goal.invariant-loop-step

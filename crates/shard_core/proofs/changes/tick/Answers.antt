@@ -1,10 +1,10 @@
 use Rattle.std.proofs.Common.{◌+◌, refl, arith}
 use Rattle.shard_core.proofs.CountLemmas.{counted_more}
-use Rattle.shard_core.proofs.changes.begin.Goals as goal
+use Rattle.shard_core.proofs.changes.tick.Goals as goal
 
 pub returns : goal.returns
 returns c = record {
-  tablets = refl;
-  world = rw c.writes_with-fields.ensures refl;
+  config = refl;
+  world = refl;
   counted = λ n h. counted_more n (n + 1) c.args.fields.now.places.items (omega arith) h;
 }
