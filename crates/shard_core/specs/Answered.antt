@@ -1,4 +1,5 @@
--- The causes of the answers of a history, read off its steps: each over what came before the End.
+-- The causes of the answers of a history, read off its steps: each over what came before the End. After the answers of
+-- PlannedReparentShard (Vitess manual).
 use Rattle.std.specs.Prelude.{◌≡◌, ◌⊎◌, ℕ, ◌+◌, List, false, Option, Some, None, take, slice_get, Contains}
 use Rattle.shard_names.specs.Tablets.{tablet_of}
 use Rattle.shard_names.specs.declared.alias.Alias.{Alias}

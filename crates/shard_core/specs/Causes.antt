@@ -1,4 +1,5 @@
--- The cause of an answer: what has to hold where a command ends with it.
+-- The cause of an answer: what has to hold where a command ends with it. After the answers of PlannedReparentShard and the promotion rules
+-- (Vitess manual).
 use Rattle.std.specs.Prelude.{ℕ, Bool, true, false, not, ◌&&◌, ◌==◌, List, Option, Some, None, is_none}
 use Rattle.std.specs.List.{list_any}
 use Rattle.std.specs.Str.{bytes_eq}

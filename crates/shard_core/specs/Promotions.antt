@@ -1,4 +1,6 @@
--- What a history promotes and what it tells, read off the logs.
+-- What a history promotes and what it tells, read off the logs. A promotion is a row in the log, as Vitess writes one into its reparent
+-- journal (Vitess manual); that one term promotes once, and that what was told is kept, is what Sougoumarane's "Consensus algorithms at
+-- scale" asks of a change of leaders.
 use Rattle.std.specs.Prelude.{◌≡◌, ◌≤◌, ℕ, List, ◌∷◌, ◌++◌, Option, Some, None, take, length, slice_get, Contains}
 use Rattle.shard_names.specs.declared.alias.Alias.{Alias}
 use Rattle.gtid_sets.specs.declared.entry.Entry.{Entry}

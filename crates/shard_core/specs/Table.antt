@@ -1,4 +1,6 @@
--- The step table of this stage, in three columns: for each event its condition, its reply and the world that it leaves.
+-- The step table of this stage, in three columns: for each event its condition, its reply and the world that it leaves. After
+-- PlannedReparentShard and the shard lock (Vitess manual); that the lock has terms, and that a term says whom it promotes before it does,
+-- is after Sougoumarane's "Consensus algorithms at scale".
 use Rattle.std.specs.Prelude.{◌≡◌, ℕ, ◌+◌, ◌-◌, take, Bool, true, false, not, ◌&&◌, ◌||◌, ◌==◌, nat_le, nat_lt, List, [], ◌∷◌, ◌++◌, Option, Some, None, Result, Ok, Err, is_none, is_some, length, slice_get, IsTrue, ⊤, if◌then◌else◌}
 use Rattle.shard_base.specs.Options.{◌>>=◌}
 use Rattle.shard_names.specs.Tablets.{alias_eq, is_declared}

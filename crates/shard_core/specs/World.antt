@@ -1,4 +1,6 @@
--- The world of one shard: what stands at a moment.
+-- The world of one shard: what stands at a moment. Tablets, the shard's lock and its record are those of Vitess (Vitess manual), logs of
+-- numbered transactions those of MySQL (MySQL 8.0 manual, "GTID Format and Storage"), terms and intents those of Sougoumarane's "Consensus
+-- algorithms at scale".
 use Rattle.std.specs.Prelude.{ℕ, zero, suc, Bool, true, false, not, List, [], ◌∷◌, Option, Some, None, if◌then◌else◌, slice_get, codes, position}
 use Rattle.std.specs.Str.{bytes_eq}
 use Rattle.shard_base.specs.Options.{◌>>=◌, only_if}

@@ -1,4 +1,4 @@
--- A script, and the fold over its lines that reads it.
+-- A script, and the fold over its lines that reads it. Its commands are those of vtctldclient (Vitess manual).
 use Rattle.std.specs.Prelude.{◌≡◌, ℕ, ◌+◌, ◌-◌, ◌≤◌, List, [], ◌∷◌, ◌++◌, Bool, false, ◌&&◌, not, ◌==◌, nat_lt, nat_le, Option, Some, None, is_some, is_none, Result, Ok, Err, if◌then◌else◌, length, take, slice_index_or, position, unwrap_or, All, ⊤}
 use Rattle.std.specs.List.{list_any}
 use Rattle.std.specs.Str.{bytes_eq}

@@ -1,4 +1,5 @@
--- What is printed.
+-- What is printed. A command is named as for vtctldclient (Vitess manual), and a transaction is printed as MySQL prints a GTID (MySQL 8.0
+-- manual); the texts of the answers are vtshard's own.
 use Rattle.std.specs.Prelude.{ℕ, List, [], ◌∷◌, ◌++◌, Bool, true, false, Option, Some, None, if◌then◌else◌, codes}
 use Rattle.std.specs.List.{flat_map, list_any}
 use Rattle.std.specs.Fmt.{decimal}
