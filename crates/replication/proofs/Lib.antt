@@ -1,0 +1,5 @@
+pub mod AckLemmas
+pub mod GreatestLemmas
+pub mod ToldLemmas
+pub mod LawLemmas
+pub mod TestLemmas

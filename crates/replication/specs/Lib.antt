@@ -1,0 +1,5 @@
+pub mod Acks
+pub mod Places
+pub mod Told
+pub mod Streams
+pub mod Laws
