@@ -26,7 +26,7 @@ use Rattle.shard_core.specs.declared.event.Reply.TheVariants as replies
 use Rattle.shard_core.specs.declared.event.Step.{Step}
 use Rattle.shard_core.specs.declared.world.CommandState.{CommandState}
 use Rattle.shard_core.specs.World.{Config, World, opening, numbered, open_command, term_of, own_gtid, is_eligible}
-use Rattle.shard_core.specs.Causes.{may_be_promoted, is_eligible_alias, is_term, says_taken, says_lost, says_intent, is_ok, promotes_tablet, records_tablet, was_answered, has_promoted, has_recorded, is_record, is_gtid, has_refusal_cause, has_planned_cause, has_write_cause, has_command_cause, has_cause}
+use Rattle.shard_core.specs.Causes.{may_be_promoted, is_eligible_alias, is_term, says_taken, says_lost, says_intent, is_ok, promotes_tablet, records_tablet, was_answered, has_promoted, has_recorded, is_record, is_gtid, has_refusal_cause, has_planned_cause, is_want_of_memory, has_write_cause, has_command_cause, has_cause}
 use Rattle.shard_core.specs.Table.{meets, after, step_of, with_act, with_written, is_write, term_taken, begun_state, world_after, IsStep, IsRunFrom, IsRun}
 use Rattle.shard_core.specs.Promotions.{world_at}
 use Rattle.shard_core.specs.Answered.{Answered, Promotes, Writes, LosesLock, ReadsIntent, BeginsAt, RecordedAtBegin, IsRefusalCause, IsPlannedCause, IsWriteCause, IsCause, AnswersHaveCauses}
@@ -143,7 +143,10 @@ did_past config w (events.Record d a) c x y met did first h =
     let s : Step = step_of config w (events.Record d a) in
     subst (λ (v : CommandState). IsPast config (w.past ++ s ∷ []) c v) did.1
     (acted config w.past s c x (did.0, change_fits (term_of w d) (λ t. answer_record w.topo t)) h)
-did_past config w (events.Release d) c x y met did first h = absurd did
+did_past config w (events.Release d) c x y met did first h =
+    let s : Step = step_of config w (events.Release d) in
+    let k : IsPast config (w.past ++ s ∷ []) c x = longer config w.past (s ∷ []) c x h in
+    subst (λ (v : CommandState). IsPast config (w.past ++ s ∷ []) c v) did.1 (record { began = k.began; acts = k.acts; term = k.term; wrote = k.wrote })
 did_past config w events.Lapse c x y met did first h = absurd did
 did_past config w (events.Write d a) c x y met did first h =
     let s : Step = step_of config w (events.Write d a) in
@@ -272,6 +275,7 @@ refusal_caused : (config : Config) (past : List Step) (c : ℕ) (a : Alias) (act
     → has_refusal_cause config a acts refusal ≡ true → IsRefusalCause config.tablets past c a refusal
 refusal_caused config past c a acts (refusals.LockTaken t by) h cause = taken_caused past c acts t by h cause
 refusal_caused config past c a acts (refusals.LockLost t) h cause = lost_caused past c acts t h cause
+refusal_caused config past c a acts refusals.OutOfMemory h cause = tt
 refusal_caused config past c a acts (refusals.NoSuchTablet b) h cause = (
   sym (alias_eq_is a b (both_left (alias_eq a b) (not (is_declared config.tablets a)) cause)),
   none_of (tablet_of config.tablets a) (both_right (alias_eq a b) (not (is_declared config.tablets a)) cause),
@@ -306,6 +310,14 @@ recorded_at_begin : (config : Config) (past : List Step) (c : ℕ) (command : Co
     → RecordedAtBegin config past c v
 recorded_at_begin config past c command r v h same = (h.0, command, h.1, h.2 ∙ same)
 
+memory_is : (refusal : Refusal) → is_want_of_memory refusal ≡ true → refusal ≡ refusals.OutOfMemory
+memory_is (refusals.LockTaken t by) h = absurd (false≢true h)
+memory_is (refusals.LockLost t) h = absurd (false≢true h)
+memory_is (refusals.NoSuchTablet a) h = absurd (false≢true h)
+memory_is (refusals.NotEligible a bar) h = absurd (false≢true h)
+memory_is (refusals.NotBuilt t) h = absurd (false≢true h)
+memory_is refusals.OutOfMemory h = refl
+
 write_caused : (config : Config) (past : List Step) (c : ℕ) (s : CommandState) (x : CommandAnswer) → is_write s.command ≡ true → IsPast config past c s
     → has_write_cause s x ≡ true → IsWriteCause config past c x
 write_caused config past c s (answers.Committed g a t) writes h cause =
@@ -315,7 +327,7 @@ write_caused config past c s (answers.Committed g a t) writes h cause =
 write_caused config past c s answers.NoPrimaryRecorded writes h cause =
     recorded_at_begin config past c s.command s.primary None h.began (none_recorded s.primary cause)
 write_caused config past c s (answers.Promoted a t) writes h cause = absurd (false≢true cause)
-write_caused config past c s (answers.Refused refusal) writes h cause = absurd (false≢true cause)
+write_caused config past c s (answers.Refused refusal) writes h cause = memory_is refusal cause
 
 command_caused : (config : Config) (past : List Step) (c : ℕ) (s : CommandState) (command : Command) (x : CommandAnswer) → s.command ≡ command → IsPast config past c s
     → has_command_cause config s command x ≡ true → IsCause config past c command x

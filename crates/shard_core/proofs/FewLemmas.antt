@@ -11,7 +11,7 @@ use Rattle.shard_core.specs.declared.event.Step.{Step}
 use Rattle.shard_core.specs.declared.world.ActorState.{ActorState}
 use Rattle.shard_core.specs.declared.world.CommandState.{CommandState}
 use Rattle.shard_core.specs.World.{Config, World, own_gtid, changed, changed_at, idle_actor, open_command, place_of, term_of}
-use Rattle.shard_core.specs.Table.{by_term, begins, begun_state, change_by, with_written, client_at, client_of, with_actor, joined_at, opens, closes, writes_by, takes_by, ends_by, writes_by_state, promotes}
+use Rattle.shard_core.specs.Table.{by_term, begins, begun_state, change_by, with_written, as_released, client_at, client_of, with_actor, joined_at, opens, closes, writes_by, takes_by, ends_by, writes_by_state, promotes}
 use Rattle.shard_core.specs.Places.{HaveFewWrites, AreFew, Data}
 
 pub length_changed : {A : Type 0} (xs : List A) (k : ℕ) (f : A → A) → length (changed xs k f) ≡ length xs
@@ -156,7 +156,7 @@ few_of n config w step (events.Promote c a) h = of_promote n config w c a step (
 few_of n config w step (events.Record c a) h =
     of_topo n w _ c _ h (by_option (w.topo.term + 1) w.topo (term_of w c) (λ t. after_record w.topo t w.clock) (omega arith) (λ t. record_term w.topo t w.clock _ refl))
 few_of n config w step (events.Release c) h =
-    of_topo n w _ 0 (λ s. s) h (by_option (w.topo.term + 1) w.topo (term_of w c) (after_release w.topo) (omega arith) (λ t. release_term w.topo t _ refl))
+    of_topo n w _ c as_released h (by_option (w.topo.term + 1) w.topo (term_of w c) (after_release w.topo) (omega arith) (λ t. release_term w.topo t _ refl))
 few_of n config w step events.Lapse h = of_topo n w (after_lapse w.topo) 0 (λ s. s) h (omega arith)
 few_of n config w step (events.Write c a) h = of_write n config w c a step (open_command w c) h
 few_of n config w step (events.Tick ms) h = let m = more n w h in record { term = m.term; actors = m.actors; commands = m.commands; writes = m.writes }

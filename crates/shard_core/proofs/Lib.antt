@@ -3,6 +3,7 @@ pub mod CountLemmas
 pub mod WriteLemmas
 pub mod ActLemmas
 pub mod FewLemmas
+pub mod RoomLemmas
 pub mod RunLemmas
 pub mod OpeningLemmas
 pub mod ReplyLemmas

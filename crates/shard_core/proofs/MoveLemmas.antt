@@ -12,7 +12,7 @@ use Rattle.shard_core.specs.declared.world.CommandState.{CommandState}
 use Rattle.shard_core.specs.World.{Config, World, own_gtid, numbered, changed_at, if_open, open_command, term_in, term_of}
 use Rattle.shard_core.specs.Causes.{is_eligible_alias}
 use Rattle.shard_names.specs.Tablets.{is_declared}
-use Rattle.shard_core.specs.Table.{meets, after, step_of, by_term, with_act, with_written, term_taken, took_nothing, is_first_intent, may_write, takes_by, writes_by_state, ends_by, promotes, begun_state}
+use Rattle.shard_core.specs.Table.{meets, after, step_of, by_term, with_act, with_written, as_released, term_taken, took_nothing, is_first_intent, may_write, takes_by, writes_by_state, ends_by, promotes, begun_state}
 use Rattle.shard_core.proofs.ListLemmas.{numbered-push_cases, changed_at_cases}
 
 abbrev pub with_term : Option ℕ → CommandState → CommandState
@@ -31,7 +31,7 @@ Did config w (events.Promote d a) c x y =
     (d ≡ c) × ((t : ℕ) × (term_of w d ≡ Some t) × (x.term ≡ Some t) × (is_first_intent w.topo a t ≡ true)
     × (with_written (own_gtid config w a) (step_of config w (events.Promote d a)) x ≡ y))
 Did config w (events.Record d a) c x y = (d ≡ c) × (with_act (step_of config w (events.Record d a)) x ≡ y)
-Did config w (events.Release d) c x y = ⊥
+Did config w (events.Release d) c x y = (d ≡ c) × (as_released x ≡ y)
 Did config w events.Lapse c x y = ⊥
 Did config w (events.Write d a) c x y =
     (d ≡ c) × (open_command w d ≡ Some x) × (may_write (Some x) a ≡ true) × (with_written (own_gtid config w a) (step_of config w (events.Write d a)) x ≡ y)
@@ -136,7 +136,7 @@ moved config w (events.Promote b a) met c y h =
     promote_moves config w b a (term_of w b) refl (both_right (is_eligible_alias config a && not w.promoted) _ met) c y h
 moved config w (events.Record b a) met c y h =
     changes_of config w (events.Record b a) b (with_act (step_of config w (events.Record b a))) c y (λ x same here made. (same, made)) h
-moved config w (events.Release b) met c y h = inl h
+moved config w (events.Release b) met c y h = changes_of config w (events.Release b) b as_released c y (λ x same here made. (same, made)) h
 moved config w events.Lapse met c y h = inl h
 moved config w (events.Write b a) met c y h =
     write_moves config w b a (open_command w b) refl (both_right (is_declared config.tablets a) _ met) c y h

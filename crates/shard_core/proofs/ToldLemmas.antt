@@ -189,7 +189,9 @@ did_in_logs config w (events.Promote d b) c x y did first h =
 did_in_logs config w (events.Record d b) c x y did first h =
     subst (λ (v : CommandState). InLogs (after config w (events.Record d b)).tablets v) did.1
     (acted (after config w (events.Record d b)).tablets _ x (λ a. refl) (stays_in_logs config w (events.Record d b) x h))
-did_in_logs config w (events.Release d) c x y did first h = absurd did
+did_in_logs config w (events.Release d) c x y did first h =
+    let k : InLogs (after config w (events.Release d)).tablets x = stays_in_logs config w (events.Release d) x h in
+    subst (λ (v : CommandState). InLogs (after config w (events.Release d)).tablets v) did.1 (record { wrote = k.wrote; promoted = k.promoted })
 did_in_logs config w events.Lapse c x y did first h = absurd did
 did_in_logs config w (events.Write d b) c x y did first h =
     subst (λ (v : CommandState). InLogs (after config w (events.Write d b)).tablets v) did.3

@@ -1,6 +1,6 @@
 -- The causes of the answers of a history, read off its steps: each over what came before the End. After the answers of
 -- PlannedReparentShard (Vitess manual).
-use Rattle.std.specs.Prelude.{◌≡◌, ◌⊎◌, ℕ, ◌+◌, List, false, Option, Some, None, take, slice_get, Contains}
+use Rattle.std.specs.Prelude.{◌≡◌, ◌⊎◌, ℕ, ◌+◌, List, false, Option, Some, None, take, slice_get, Contains, ⊤}
 use Rattle.shard_names.specs.Tablets.{tablet_of}
 use Rattle.shard_names.specs.declared.alias.Alias.{Alias}
 use Rattle.shard_names.specs.declared.tablet.Tablet.{Tablet}
@@ -64,6 +64,7 @@ IsRefusalCause tablets before c a (refusals.NoSuchTablet b) = (b ≡ a) × (tabl
 IsRefusalCause tablets before c a (refusals.NotEligible b bars.MustNot) =
     (b ≡ a) × ((t : Tablet) × (tablet_of tablets a ≡ Some t) × (is_eligible t ≡ false))
 IsRefusalCause tablets before c a (refusals.NotBuilt t) = ReadsIntent before c t
+IsRefusalCause tablets before c a refusals.OutOfMemory = ⊤
 
 -- PlannedReparentShard to this tablet: promoted in the term that the command took, by its Promote and its Record; or refused
 abbrev pub IsPlannedCause : List Tablet → List Step → ℕ → Alias → CommandAnswer → Type 0
@@ -79,7 +80,7 @@ IsWriteCause config before c (answers.Committed g a t) =
     Writes before c g × ((r : Record) × RecordedAtBegin config before c (Some r) × (r.alias ≡ a) × (r.term ≡ t))
 IsWriteCause config before c answers.NoPrimaryRecorded = RecordedAtBegin config before c None
 IsWriteCause config before c (answers.Promoted a term) = ⊥
-IsWriteCause config before c (answers.Refused refusal) = ⊥
+IsWriteCause config before c (answers.Refused refusal) = refusal ≡ refusals.OutOfMemory
 
 abbrev pub IsCause : Config → List Step → ℕ → Command → CommandAnswer → Type 0
 IsCause config before c (commands.Planned shard new_primary) x = IsPlannedCause config.tablets before c new_primary x

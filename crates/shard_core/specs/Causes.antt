@@ -92,6 +92,7 @@ has_refusal_cause config new_primary acts (refusals.NoSuchTablet a) =
 has_refusal_cause config new_primary acts (refusals.NotEligible a bars.MustNot) =
     alias_eq new_primary a && is_declared config.tablets new_primary && not (is_eligible_alias config new_primary)
 has_refusal_cause config new_primary acts (refusals.NotBuilt t) = was_answered (says_intent t) acts
+has_refusal_cause config new_primary acts refusals.OutOfMemory = true
 
 -- of a PlannedReparentShard to this tablet
 abbrev pub has_planned_cause : Config → Alias → CommandState → CommandAnswer → Bool
@@ -109,12 +110,21 @@ abbrev pub is_gtid : Option Gtid → Gtid → Bool
 is_gtid None g = false
 is_gtid (Some h) g = gtid_eq h g
 
+-- want of memory needs no other cause
+abbrev pub is_want_of_memory : Refusal → Bool
+is_want_of_memory (refusals.LockTaken t by) = false
+is_want_of_memory (refusals.LockLost t) = false
+is_want_of_memory (refusals.NoSuchTablet a) = false
+is_want_of_memory (refusals.NotEligible a bar) = false
+is_want_of_memory (refusals.NotBuilt t) = false
+is_want_of_memory refusals.OutOfMemory = true
+
 -- of a write
 abbrev pub has_write_cause : CommandState → CommandAnswer → Bool
 has_write_cause s (answers.Committed g a t) = is_gtid s.wrote g && is_record s.primary a t
 has_write_cause s answers.NoPrimaryRecorded = is_none s.primary
 has_write_cause s (answers.Promoted a t) = false
-has_write_cause s (answers.Refused refusal) = false
+has_write_cause s (answers.Refused refusal) = is_want_of_memory refusal
 
 abbrev pub has_command_cause : Config → CommandState → Command → CommandAnswer → Bool
 has_command_cause config s (commands.Planned shard new_primary) answer = has_planned_cause config new_primary s answer

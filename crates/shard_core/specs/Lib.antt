@@ -1,8 +1,10 @@
 pub mod Logs
 pub mod World
+pub mod Room
 pub mod Causes
 pub mod Table
 pub mod Promotions
 pub mod Answered
 pub mod Kept
 pub mod Places
+pub mod Stands

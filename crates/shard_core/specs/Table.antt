@@ -48,6 +48,10 @@ without_act s = record s { acts = take (length s.acts - 1) s.acts }
 abbrev pub on_topo : World → Topology → World
 on_topo w t = record w { topo = t }
 
+-- it has made its Release
+abbrev pub as_released : CommandState → CommandState
+as_released s = record s { released = true }
+
 -- of the term in which the command took the lock
 abbrev pub by_term : {A : Type 0} → Option ℕ → A → (ℕ → A) → A
 by_term None none some = none
@@ -95,6 +99,7 @@ begun_state w name command = record {
   number = number_of w.actors name command;
   primary = w.topo.recorded;
   term = None;
+  released = false;
   ended = false;
   wrote = None;
   acts = [];
@@ -261,7 +266,7 @@ change_by config w step (events.Intend c a) =
 change_by config w step (events.Promote c a) = by_term (term_of w c) w (promotes config w c a step)
 change_by config w step (events.Record c a) =
     on_command (on_topo w (by_term (term_of w c) w.topo (λ t. after_record w.topo t w.clock))) c (with_act step)
-change_by config w step (events.Release c) = on_topo w (by_term (term_of w c) w.topo (after_release w.topo))
+change_by config w step (events.Release c) = on_command (on_topo w (by_term (term_of w c) w.topo (after_release w.topo))) c as_released
 change_by config w step events.Lapse = on_topo w (after_lapse w.topo)
 change_by config w step (events.Write c a) = writes config w c a step
 change_by config w step (events.Tick ms) = record w { clock = w.clock + ms }

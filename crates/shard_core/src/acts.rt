@@ -1,9 +1,9 @@
 ghost use Rattle.std.specs.Prelude.{◌≡◌, ◌<◌, ◌≤◌, ◌+◌, ◌-◌, ◌^◌, ◌∷◌, ◌++◌, [], true, length, MatchOption, OnOk, OnErr, Some, None};
 ghost use Rattle.shard_core.specs.World.{numbered, changed, changed_at};
-ghost use Rattle.shard_core.specs.Table.{with_act, without_act, closes, opens, writes_by};
+ghost use Rattle.shard_core.specs.Table.{with_act, without_act, as_released, closes, opens, writes_by};
 ghost use Rattle.shard_core.specs.Places.{HaveFewWrites};
 
-use crate::event::push_step;
+use crate::event::push_act;
 use crate::world::{ActorState, CommandState};
 use crate::{Command, Step};
 use gtid_sets::Gtid;
@@ -21,7 +21,7 @@ fn act_in(state: &mut CommandState, step: &Step) -> Result<(), OutOfMemory>
     ensures ok { OnOk result (state.new ≡ with_act step.now state.old) }
     ensures err { OnErr result (state.new ≡ state.old) }
 {
-    push_step(&mut state.acts, step)
+    push_act(&mut state.acts, step)
 }
 
 /// The command has made this step.
@@ -82,6 +82,21 @@ pub(crate) fn note_written(commands: &mut Vec<CommandState>, command: u64, gtid:
 {
     if let Some(at) = place_of_number(commands, command) {
         note_in(&mut commands[at], gtid);
+    }
+}
+
+fn release_in(state: &mut CommandState)
+    ensures { state.new ≡ as_released state.old }
+{
+    state.released = true;
+}
+
+/// The command has made its Release.
+pub(crate) fn set_released(commands: &mut Vec<CommandState>, command: u64)
+    ensures { commands.new.items ≡ changed_at commands.old.items command as_released }
+{
+    if let Some(at) = place_of_number(commands, command) {
+        release_in(&mut commands[at]);
     }
 }
 

@@ -70,6 +70,7 @@ fn begun_state(fields: &Fields, name: &Name, command: &Command) -> CommandState
         number: number_of(&fields.actors, name, command),
         primary: fields.topo.recorded(),
         term: None,
+        released: false,
         ended: false,
         wrote: None,
         acts: Items::new(fields.alloc),

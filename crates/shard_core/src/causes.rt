@@ -1,7 +1,7 @@
 ghost use Rattle.std.specs.Prelude.{◌≡◌};
 ghost use Rattle.shard_core.specs.World.{numbered, if_open};
 ghost use Rattle.shard_core.specs.Places.{data_of, config_in};
-ghost use Rattle.shard_core.specs.Causes.{is_term, says_taken, says_lost, says_intent, is_ok, promotes_tablet, records_tablet, was_answered, has_promoted, has_recorded, has_refusal_cause, has_planned_cause, is_record, is_gtid, has_write_cause, has_command_cause, has_cause};
+ghost use Rattle.shard_core.specs.Causes.{is_term, says_taken, says_lost, says_intent, is_ok, promotes_tablet, records_tablet, was_answered, has_promoted, has_recorded, has_refusal_cause, has_planned_cause, is_record, is_gtid, is_want_of_memory, has_write_cause, has_command_cause, has_cause};
 
 use crate::commands::open_command;
 use crate::places::{is_declared, is_eligible_alias};
@@ -118,6 +118,7 @@ fn has_refusal_cause(fields: &Fields, new_primary: &Alias, acts: &[Step], refusa
             }
         },
         Refusal::NotBuilt { term } => has_read_intent(*term, acts),
+        Refusal::OutOfMemory => true,
     }
 }
 
@@ -171,6 +172,12 @@ fn is_gtid(wrote: &Option<Gtid>, gtid: &Gtid) -> bool
     }
 }
 
+fn is_want_of_memory(refusal: &Refusal) -> bool
+    ensures { result ≡ is_want_of_memory refusal.now }
+{
+    matches!(refusal, Refusal::OutOfMemory)
+}
+
 fn has_write_cause(state: &CommandState, answer: &CommandAnswer) -> bool
     ensures { result ≡ has_write_cause state.now answer.now }
 {
@@ -180,7 +187,7 @@ fn has_write_cause(state: &CommandState, answer: &CommandAnswer) -> bool
         }
         CommandAnswer::NoPrimaryRecorded => state.primary.is_none(),
         CommandAnswer::Promoted { .. } => false,
-        CommandAnswer::Refused { .. } => false,
+        CommandAnswer::Refused { refusal } => is_want_of_memory(refusal),
     }
 }
 

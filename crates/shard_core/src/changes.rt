@@ -1,10 +1,12 @@
-ghost use Rattle.std.specs.Prelude.{◌≡◌, ◌<◌, ◌-◌, ◌^◌, true, OnOk, OnErr};
+ghost use Rattle.std.specs.Prelude.{◌≡◌, ◌<◌, ◌-◌, ◌^◌, true, IsOk, OnOk, OnErr};
 ghost use Rattle.shard_names.specs.Tablets.{is_declared};
 ghost use Rattle.shard_core.specs.Places.{tablets_of, gtid_at, WritesAt, data_of, seen, config_in, Becomes, Wrote, AreCounted, AreFew};
-ghost use Rattle.shard_core.specs.Table.{meets, recorded_term, kind_of};
+ghost use Rattle.topo_lock.specs.Topology.{after_release};
+ghost use Rattle.shard_core.specs.Table.{meets, recorded_term, kind_of, by_term};
+ghost use Rattle.shard_core.specs.Room.{has_room_kept};
 ghost use Rattle.shard_core.specs.declared.event.Event.TheVariants as events;
 
-use crate::acts::{act, close, forget_act, note_written, set_ended, set_term};
+use crate::acts::{act, close, forget_act, note_written, set_ended, set_released, set_term};
 use crate::beginning::begin;
 use crate::commands::{open_command, term_of};
 use crate::places::{find_place, write_next};
@@ -13,7 +15,7 @@ use crate::{CommandAnswer, Event, Step};
 use gtid_sets::{Gtid, Kind};
 use shard_base::OutOfMemory;
 use shard_names::Alias;
-use topo_lock::{Holder, Record};
+use topo_lock::{Holder, Record, Topo};
 
 /// The tablet's next own transaction.
 pub(crate) fn own_gtid(places: &[Place], alias: &Alias) -> Gtid
@@ -101,14 +103,23 @@ fn set_record(
     Ok(())
 }
 
-/// Frees the lock, if the command holds it.
+/// Frees the lock, if it is held in this term.
+fn free(topo: &mut Topo, term: Option<u64>)
+    ensures { topo.new.topology ≡ by_term term topo.old.topology (after_release topo.old.topology) }
+{
+    if let Some(term) = term {
+        topo.release(term);
+    }
+}
+
+/// Frees the lock, if the command holds it. The command has then made its Release.
 fn release(fields: &mut Fields, command: u64, step: &Step)
     ensures { Becomes (data_of fields.old) (data_of fields.new) step.now (events.Release command) }
 {
     let _made = step;
-    if let Some(term) = term_of(&fields.commands, command) {
-        fields.topo.release(term);
-    }
+    let term = term_of(&fields.commands, command);
+    free(&mut fields.topo, term);
+    set_released(&mut fields.commands, command);
 }
 
 /// The tablet writes an entry of this kind, which the command keeps with its step.
@@ -234,6 +245,7 @@ pub(crate) fn change(fields: &mut Fields, event: &Event, step: &Step) -> Result<
     requires counted { AreCounted (2 ^ 64 - 2) fields.old.places.items }
     ensures ok { OnOk result (Becomes (data_of fields.old) (data_of fields.new) step.now event.now) }
     ensures err { OnErr result (data_of fields.new ≡ data_of fields.old) }
+    ensures kept { has_room_kept (seen (data_of fields.old)) event.now ≡ true → IsOk result }
 {
     match event {
         Event::Begin { actor, command } => begin(fields, actor, command, step),

@@ -33,6 +33,8 @@ pub enum Refusal {
     NotEligible { alias: Alias, bar: Bar },
     /// There is an intent of this term already, and a reparent away from it is not built.
     NotBuilt { term: u64 },
+    /// Memory ran out while the command went on.
+    OutOfMemory,
 }
 
 /// How a command ended.

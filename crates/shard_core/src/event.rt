@@ -66,11 +66,11 @@ pub struct Step {
 /// What happened: the steps, in order.
 #[derive(Drop)]
 pub struct History {
-    pub steps: Items<Step>,
+    pub steps: Vec<Step>,
 }
 
-/// Appends a step.
-pub(crate) fn push_step(steps: &mut Items<Step>, step: &Step) -> Result<(), OutOfMemory>
+/// Appends a step to what a command did.
+pub(crate) fn push_act(steps: &mut Items<Step>, step: &Step) -> Result<(), OutOfMemory>
     ensures ok { OnOk result (steps.new ≡ steps.old ++ step.now ∷ []) }
     ensures err { OnErr result (steps.new ≡ steps.old) }
 {

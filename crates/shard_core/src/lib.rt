@@ -11,6 +11,7 @@ mod conditions;
 mod event;
 mod places;
 mod replies;
+mod room;
 mod shard;
 mod world;
 
@@ -18,3 +19,4 @@ pub use command::{Bar, Command, CommandAnswer, Refusal};
 pub use event::{Event, History, Reply, Seen, Step};
 pub use places::is_eligible;
 pub use shard::{MOST_STEPS, Refused, Shard};
+pub use world::CommandState;

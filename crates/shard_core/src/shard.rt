@@ -1,21 +1,24 @@
-ghost use Rattle.std.specs.Prelude.{◌≡◌, ◌<◌, ◌≤◌, ◌↔◌, ◌++◌, ◌∷◌, ◌-◌, ◌^◌, [], ℕ, true, false, length, IfOk, OnOk, OnErr, IsErrOf, map, Some, None};
+ghost use Rattle.std.specs.Prelude.{◌≡◌, ◌<◌, ◌≤◌, ◌↔◌, ◌++◌, ◌∷◌, ◌+◌, ◌-◌, ◌^◌, [], ℕ, true, false, length, IfOk, IsOk, OnOk, OnErr, IsErrOf, map, Some, None, vec_len, vec_capacity};
+ghost use Rattle.std.specs.Option.{option_copied};
 ghost use Rattle.shard_names.specs.Tablets.{AreTablets, tablet_of};
-ghost use Rattle.shard_core.specs.World.{Config, opening, idle_actor, main_name};
+ghost use Rattle.shard_core.specs.World.{Config, opening, idle_actor, main_name, open_of, open_command};
+ghost use Rattle.shard_core.specs.Room.{owed_of, has_room_kept};
 ghost use Rattle.shard_core.specs.Table.{Met, meets, answer, row_number, step_of};
-ghost use Rattle.shard_core.specs.Places.{Data, data_of, seen, config_in, Leads, world_seen, opened, AreFew, AreCounted};
+ghost use Rattle.shard_core.specs.Places.{Data, data_of, seen, config_in, Leads, Becomes, world_seen, opened, AreFew, AreCounted};
 
 use crate::changes::change;
+use crate::commands::{open_command, open_of};
 use crate::conditions::{meets, row_number};
-use crate::event::push_step;
 use crate::places::find_tablet;
 use crate::replies::answer;
-use crate::world::{ActorState, Fields, Place};
-use crate::{Command, CommandAnswer, Event, History, Refusal, Reply, Step};
+use crate::room::owed_after;
+use crate::world::{ActorState, CommandState, Fields, Place};
+use crate::{Command, CommandAnswer, Event, History, Refusal, Reply, Seen, Step};
 use shard_base::{Items, OutOfMemory};
 use shard_names::{Alias, Name, Tablet};
 use std::alloc::Global;
 use std::marker::Model;
-use topo_lock::Topo;
+use topo_lock::{Intent, Record, Topo};
 
 /// Why the machine made no step. It then stands as it was.
 #[derive(Clone, Copy, Debug, PartialEq, Eq)]
@@ -36,18 +39,22 @@ pub const MOST_STEPS: usize = 1000000;
 pub struct Shard {
     fields: Fields,
     history: History,
+    /// The steps that open commands still owe: each its End, and before it its Release. For so many there is room.
+    owed: u64,
 }
 
 // Clauses see the tablets and the steps: all that stands follows from them.
 impl Model for Shard {
     ghost use Rattle.shard_core.specs.Kept.{Kept};
-    ghost use Rattle.shard_core.specs.Places.{data_of, config_in, Leads};
+    ghost use Rattle.shard_core.specs.Places.{data_of, config_in};
 
     ghost Value = { Kept };
 
-    ghost view = { λ s. record { config = config_in (data_of s.fields); steps = s.history.steps } };
+    ghost use Rattle.shard_core.specs.Stands.{Stands};
 
-    ghost invariant = { λ s. Leads (data_of s.fields) s.history.steps };
+    ghost view = { λ s. record { config = config_in (data_of s.fields); steps = s.history.steps.items } };
+
+    ghost invariant = { Stands };
 }
 
 /// The event with the reply of its row.
@@ -66,29 +73,52 @@ fn step_of(fields: &Fields, event: &Event) -> Step
     Step { event, reply }
 }
 
-/// The step of an event whose row's condition holds. Want of memory changes nothing.
-fn make(fields: &mut Fields, steps: &mut Items<Step>, event: &Event) -> Result<Reply, OutOfMemory>
-    requires leads { Leads (data_of fields.old) steps.old }
-    requires room { length steps.old < 1000000 }
-    requires met { meets (config_in (data_of fields.old)) (seen (data_of fields.old)) event.now ≡ true }
-    ensures leads { OnOk result (Leads (data_of fields.new) steps.new) }
-    ensures config { OnOk result (config_in (data_of fields.new) ≡ config_in (data_of fields.old)) }
-    ensures reply { IfOk result (λ reply. reply ≡ answer (config_in (data_of fields.old)) (seen (data_of fields.old)) event.now) }
-    ensures step { OnOk result (steps.new ≡ steps.old ++ step_of (config_in (data_of fields.old)) (seen (data_of fields.old)) event.now ∷ []) }
-    ensures same_steps { OnErr result (steps.new ≡ steps.old) }
-    ensures same_fields { OnErr result (data_of fields.new ≡ data_of fields.old) }
+/// Appends a step, for which there is room.
+fn push_step(steps: &mut Vec<Step>, step: &Step)
+    requires room { vec_len steps.old < vec_capacity steps.old }
+    ensures items { steps.new.items ≡ steps.old.items ++ step.now ∷ [] }
+    ensures len { vec_len steps.new ≡ vec_len steps.old + 1 }
+    ensures capacity { vec_capacity steps.new ≡ vec_capacity steps.old }
 {
-    let before = steps.len();
+    // The proof's generator wants each enum inside a step named here.
+    let _command: Option<&Command> = None;
+    let _answer: Option<&CommandAnswer> = None;
+    let _refusal: Option<&Refusal> = None;
+    let _seen: Option<&Seen> = None;
+    let _record: Option<&Record> = None;
+    let _intent: Option<&Intent> = None;
+    let Step { event, reply } = *step;
+    steps.push_reserved(Step { event, reply });
+}
+
+/// The step of an event whose row's condition holds, after which there is room for so many more. Want of memory changes nothing.
+fn make(
+    fields: &mut Fields,
+    steps: &mut Vec<Step>,
+    owed: u64,
+    event: &Event,
+) -> Result<Reply, OutOfMemory>
+    requires leads { Leads (data_of fields.old) steps.old.items }
+    requires few { length steps.old.items < 1000000 }
+    requires met { meets (config_in (data_of fields.old)) (seen (data_of fields.old)) event.now ≡ true }
+    requires owed { owed < 2 ^ 32 }
+    ensures leads { OnOk result (Leads (data_of fields.new) steps.new.items) }
+    ensures step { OnOk result (steps.new.items ≡ steps.old.items ++ step_of (config_in (data_of fields.old)) (seen (data_of fields.old)) event.now ∷ []) }
+    ensures becomes { OnOk result (Becomes (data_of fields.old) (data_of fields.new) (step_of (config_in (data_of fields.old)) (seen (data_of fields.old)) event.now) event.now) }
+    ensures reply { IfOk result (λ reply. reply ≡ answer (config_in (data_of fields.old)) (seen (data_of fields.old)) event.now) }
+    ensures room { OnOk result (vec_len steps.new + owed ≤ vec_capacity steps.new) }
+    ensures same_steps { OnErr result (steps.new.items ≡ steps.old.items) }
+    ensures same_fields { OnErr result (data_of fields.new ≡ data_of fields.old) }
+    ensures same_len { OnErr result (vec_len steps.new ≡ vec_len steps.old) }
+    ensures no_less { OnErr result (vec_capacity steps.old ≤ vec_capacity steps.new) }
+    ensures kept { has_room_kept (seen (data_of fields.old)) event.now ≡ true → vec_len steps.old + owed + 1 ≤ vec_capacity steps.old → IsOk result }
+{
+    steps.reserve(owed as usize + 1)?;
     let step = step_of(fields, event);
     let reply = step.reply;
-    push_step(steps, &step)?;
-    match change(fields, event, &step) {
-        Ok(()) => Ok(reply),
-        Err(OutOfMemory) => {
-            steps.truncate(before);
-            Err(OutOfMemory)
-        }
-    }
+    change(fields, event, &step)?;
+    push_step(steps, &step);
+    Ok(reply)
 }
 
 /// The tablets with empty logs.
@@ -149,22 +179,23 @@ impl Shard {
                 commands: Vec::new(alloc),
             },
             history: History {
-                steps: Items::new(alloc),
+                steps: Vec::new(alloc),
             },
+            owed: 0,
         })
     }
 
     /// What has happened. It takes no memory.
     pub fn history(&self) -> &History
-        ensures steps { result.now.steps ≡ self.now.steps }
+        ensures steps { result.now.steps.items ≡ self.now.steps }
     {
         &self.history
     }
 
     /// The history, without the shard: a run of the machine, with all that holds of every run. It takes no memory.
     pub fn into_history(self) -> History
-        ensures steps { result.steps ≡ self.steps }
-        ensures safe { IsSafe self.config result.steps }
+        ensures steps { result.steps.items ≡ self.steps }
+        ensures safe { IsSafe self.config result.steps.items }
     {
         let Shard { history, .. } = self;
         history
@@ -184,6 +215,27 @@ impl Shard {
         &self.fields.topo
     }
 
+    /// The command of this number, if it has begun and not ended. It takes no memory.
+    pub fn command(&self, number: u64) -> Option<&CommandState>
+        ensures { option_copied result ≡ open_command (world_of self.now) number }
+    {
+        open_command(&self.fields.commands, number)
+    }
+
+    /// The command that the actor of this name has open. It takes no memory.
+    pub fn open_of(&self, name: &Name) -> Option<u64>
+        ensures { result ≡ open_of (world_of self.now).actors name.now }
+    {
+        open_of(&self.fields.actors, name)
+    }
+
+    /// Whether the condition of the event's row holds. It takes no memory.
+    pub fn meets(&self, event: &Event) -> bool
+        ensures { result ≡ meets self.now.config (world_of self.now) event.now }
+    {
+        meets(&self.fields, event)
+    }
+
     /// How many commands have begun. It takes no memory.
     pub fn begun(&self) -> u64
         ensures { result ≡ length (world_of self.now).commands }
@@ -191,7 +243,7 @@ impl Shard {
         self.fields.commands.len() as u64
     }
 
-    /// One step of the machine. A refusal changes nothing.
+    /// One step of the machine. A refusal changes nothing. A command's first Release and its End take no memory.
     pub fn apply(&mut self, event: Event) -> Result<Reply, Refused>
         ensures made { OnOk result (Makes self.old self.new event) }
         ensures reply { IfOk result (λ reply. reply ≡ answer self.old.config (world_of self.old) event) }
@@ -199,6 +251,7 @@ impl Shard {
         ensures row { (row : ℕ) → IsErrOf result (Refused.Unmet row) → row ≡ row_number event }
         ensures full { IsErrOf result Refused.Full ↔ (Met self.old.config (world_of self.old) event × (length self.old.steps ≡ MOST_STEPS)) }
         ensures err { OnErr result (self.new ≡ self.old) }
+        ensures kept { has_room_kept (world_of self.old) event ≡ true → IsErrOf result Refused.OutOfMemory → ⊥ }
     {
         if !meets(&self.fields, &event) {
             return Err(Refused::Unmet {
@@ -208,8 +261,12 @@ impl Shard {
         if self.history.steps.len() >= MOST_STEPS {
             return Err(Refused::Full);
         }
-        match make(&mut self.fields, &mut self.history.steps, &event) {
-            Ok(reply) => Ok(reply),
+        let owed = owed_after(&self.fields, self.owed, &event);
+        match make(&mut self.fields, &mut self.history.steps, owed, &event) {
+            Ok(reply) => {
+                self.owed = owed;
+                Ok(reply)
+            }
             Err(OutOfMemory) => Err(Refused::OutOfMemory),
         }
     }

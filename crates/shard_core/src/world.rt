@@ -23,21 +23,24 @@ pub(crate) struct ActorState {
 
 /// A command that has begun.
 #[derive(Drop)]
-pub(crate) struct CommandState {
-    pub(crate) command: Command,
-    pub(crate) actor: Name,
+pub struct CommandState {
+    pub command: Command,
+    pub actor: Name,
     /// The place of its actor among the actors.
-    pub(crate) client: u32,
+    pub client: u32,
     /// How many writes its actor had begun with it.
-    pub(crate) number: u64,
+    pub number: u64,
     /// What was recorded right after it began.
-    pub(crate) primary: Option<Record>,
+    pub primary: Option<Record>,
     /// The term in which it took the lock.
-    pub(crate) term: Option<u64>,
-    pub(crate) ended: bool,
-    pub(crate) wrote: Option<Gtid>,
+    pub term: Option<u64>,
+    /// Whether it has made its Release.
+    pub released: bool,
+    pub ended: bool,
+    /// What it has written.
+    pub wrote: Option<Gtid>,
     /// What it did by itself, with the replies.
-    pub(crate) acts: Items<Step>,
+    pub acts: Items<Step>,
 }
 
 /// What stands at a moment, as the shard keeps it.

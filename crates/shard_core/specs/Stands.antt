@@ -1,0 +1,10 @@
+-- What a `Shard` keeps: fields to which its history has led, and room in the history for what open commands owe.
+use Rattle.std.specs.Prelude.{◌≡◌, ◌≤◌, ◌+◌, vec_len, vec_capacity}
+use Rattle.shard_core.specs.Places.{data_of, Leads}
+use Rattle.shard_core.specs.Room.{owed_of}
+use Rattle.shard_core.specs.declared.shard.Shard.TheInside.{Inside}
+
+pub record Stands (s : Inside) : Type 0 where
+  pub leads : Leads (data_of s.fields) s.history.steps.items
+  pub owed : s.owed ≡ owed_of s.fields.commands.items
+  pub room : vec_len s.history.steps + s.owed ≤ vec_capacity s.history.steps
