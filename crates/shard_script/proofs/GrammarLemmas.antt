@@ -15,16 +15,17 @@ use Rattle.shard_names.specs.Tablets.{alias_eq, ServersDiffer}
 use Rattle.shard_names.proofs.TabletLemmas.{alias_eq-Decides}
 use Rattle.shard_core.specs.declared.command.Command.TheVariants.{Planned, Write}
 use Rattle.shard_script.specs.declared.line.Line.{Line}
-use Rattle.shard_script.specs.declared.line.Line.TheVariants.{Shard, Tablet, Play}
+use Rattle.shard_script.specs.declared.line.Line.TheVariants.{Shard, Tablet, Act}
 use Rattle.shard_script.specs.declared.script.Action.{Action}
 use Rattle.shard_script.specs.declared.script.Action.TheVariants as actions
 use Rattle.shard_script.specs.declared.script.Script.{Script}
 use Rattle.shard_script.specs.Script.{FitsShard, read_on, read_lines, with_bytes, admits, with_line, has_alias, has_server, in_place, empty_script}
 use Rattle.shard_script.specs.Grammar.{IsShardLine, IsTabletLine, IsActionLine, Says, AliasesDiffer, IsOfShard, IsShardScript, IsScript, Spell}
 use Rattle.shard_script.specs.Grammar.IsScript.{is_empty, is_shard_script}
-use Rattle.shard_script.proofs.LineLemmas.{says_of, and_both}
+use Rattle.shard_script.proofs.OptionLemmas.{and_both, not_true}
+use Rattle.shard_script.proofs.LineLemmas.{says_of}
 use Rattle.shard_script.proofs.TabletsInOrder.{or_false, any-in_place, permuted-in_place, All-map}
-use Rattle.shard_script.proofs.ScriptLemmas.{line_with_bytes, fits_lines, not_true}
+use Rattle.shard_script.proofs.ScriptLemmas.{line_with_bytes, fits_lines}
 
 -- one tablet after another in its place
 abbrev pub placed : List TabletData → List TabletData → List TabletData
@@ -72,7 +73,7 @@ step_of place s t l ls got = step_by place s t l ls (ltb 1000 place) (with_bytes
 shard_kept : (s : Script) (name : ShardName) (line : Line) → s.shard ≡ Some name → admits s line ≡ true → (with_line s line).shard ≡ Some name
 shard_kept s name (Shard n) named ok = absurd (false≢true (ap (λ (o : Option ShardName). is_none o) (sym named) ∙ ok))
 shard_kept s name (Tablet t) named ok = named
-shard_kept s name (Play c n) named ok = named
+shard_kept s name (Act x) named ok = named
 
 new_before : (d : TabletData) (ts : List TabletData) (e : TabletData) → IsNew (in_place d ts) e → IsNew ts e
 new_before d ts e h = record {
@@ -122,8 +123,7 @@ rest_with s t name l ls (Tablet d) named says ok r =
       aliases_differ = (All-map (IsNew (in_place d s.tablets)) (λ e. d.alias ≢ e.alias) r.declared (λ e h. other_alias d s.tablets e h) r.are_new, r.aliases_differ);
       servers_differ = (All-map (IsNew (in_place d s.tablets)) (λ e. bytes_eq d.server e.server ≡ true → ⊥) r.declared (λ e h. other_server d s.tablets e h) r.are_new, r.servers_differ);
     }
-rest_with s t name l ls (Play c n) named says ok r =
-    let x : Action = actions.Play c n in
+rest_with s t name l ls (Act x) named says ok r =
     let nothing = r.none_after (push_some s.actions x) in
     record {
       tablet_lines = [];
@@ -183,12 +183,17 @@ permuted_all ds = subst (λ (xs : List TabletData). IsPermutation xs (placed [] 
 of_this : (o : Option ShardName) (name : ShardName) → o ≡ Some name → (x : Action) → FitsShard o x → IsOfShard name x
 of_this o name is (actions.Play (Planned n a) k) h = let e : Some n ≡ Some name = sym h.0 ∙ is in cc
 of_this o name is (actions.Play Write k) h = tt
+of_this o name is (actions.Start starter (Planned n a)) h = let e : Some n ≡ Some name = sym h ∙ is in cc
+of_this o name is (actions.Start starter Write) h = tt
+of_this o name is (actions.Turn starter pumps) h = tt
+of_this o name is (actions.Finish starter) h = tt
+of_this o name is actions.Lapse h = tt
+of_this o name is (actions.Tick milliseconds) h = tt
 
 first_line : (line : Line) → admits empty_script line ≡ true → (name : ShardName) × (line ≡ Shard name)
 first_line (Shard name) ok = (name, refl)
 first_line (Tablet t) ok = absurd (false≢true ok)
-first_line (Play (Planned name a) n) ok = absurd (false≢true ok)
-first_line (Play Write n) ok = absurd (false≢true ok)
+first_line (Act x) ok = absurd (false≢true ok)
 
 shard_script : (l : List ℕ) (ls : List (List ℕ)) (t : Script) → read_lines (l ∷ ls) ≡ Ok t → IsShardScript (l ∷ ls) t
 shard_script l ls t got =
@@ -218,6 +223,10 @@ shard_script l ls t got =
       aliases_differ = r.aliases_differ;
       servers_differ = r.servers_differ;
       of_shard = All-map (FitsShard t.shard) (IsOfShard first.0) t.actions (of_this t.shard first.0 r.shard) fits.actions;
+      names = fits.starts;
+      few_names = fits.few_names;
+      names_differ = fits.names_differ;
+      known = fits.known;
     }
 
 few_on : (place : ℕ) (s t : Script) (ls : List (List ℕ)) → place ≤ 1001 → read_on place s ls ≡ Ok t → place + length ls ≤ 1001

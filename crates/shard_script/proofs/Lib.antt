@@ -1,7 +1,9 @@
 pub mod OptionLemmas
 pub mod LineLemmas
 pub mod NumberLemmas
+pub mod DurationLemmas
 pub mod TabletsInOrder
+pub mod NameLemmas
 pub mod ScriptLemmas
 pub mod LineReads
 pub mod GrammarLemmas

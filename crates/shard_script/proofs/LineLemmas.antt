@@ -1,49 +1,27 @@
 -- A line is read exactly as the grammar has it.
-use Rattle.std.proofs.Common.{◌≡◌, ℕ, ◌^◌, ◌≤◌, List, [], ◌∷◌, Bool, true, false, cond, eqb, ◌&&◌, Option, Some, None, Result, Ok, Err, length, refl, sym, ap, subst, ◌∙◌, arith}
-use Rattle.std.specs.Prelude.{codes, option_and_then, nat_le, nat_lt}
+use Rattle.std.proofs.Common.{◌≡◌, ℕ, List, [], ◌∷◌, Bool, true, false, cond, eqb, Option, Some, None, length, refl, sym, ap, subst, ◌∙◌, arith}
+use Rattle.std.specs.Prelude.{codes}
 use Rattle.std.specs.Result.{result_ok}
 use Rattle.std.specs.Str.{bytes_eq}
-use Rattle.std.specs.Str.Parse.{digits_value}
-use Rattle.std.specs.List.{list_all}
-use Rattle.std.specs.Char.{is_ascii_digit}
-use Rattle.std.proofs.lemmas.Bool.{false≢true}
 use Rattle.std.proofs.lemmas.Bool.Decides.{nat_tests}
-use Rattle.std.proofs.lemmas.Slice.Eq.{bytes_eq-Decides}
-use Rattle.shard_base.specs.Options.{◌>>=◌, only_if}
+use Rattle.shard_base.specs.Options.{◌>>=◌}
 use Rattle.shard_names.specs.Alias.{alias_reading}
 use Rattle.shard_names.specs.ShardName.{shard_name_reading}
 use Rattle.shard_names.specs.declared.tablet.TabletType.{TabletType}
 use Rattle.shard_names.specs.declared.tablet.TabletType.TheVariants.{Replica, Spare}
+use Rattle.shard_core.specs.declared.command.Command.{Command}
 use Rattle.shard_core.specs.declared.command.Command.TheVariants.{Planned, Write}
 use Rattle.shard_script.specs.declared.line.Line.{Line}
-use Rattle.shard_script.specs.declared.line.Line.TheVariants.{Shard, Tablet, Play}
-use Rattle.shard_script.specs.Lines.{words_of, number_reading, count_reading, server_reading, kind_reading, shard_line, tablet_line, planned_line, write_line, two_words, three_words, line_of_words, line_of}
-use Rattle.shard_script.specs.Grammar.{IsTypeWord, Says}
-
--- ---- options and tests
-
-pub cond_some : {A : Type 0} (b : Bool) (o : Option A) (x : A) → cond b o None ≡ Some x → (b ≡ true) × (o ≡ Some x)
-cond_some true o x h = (refl, h)
-cond_some false o x h = absurd (cc)
-
-pub bind_some : {A B : Type 0} (o : Option A) (f : A → Option B) (x : B) → option_and_then f o ≡ Some x → (a : A) × (o ≡ Some a) × (f a ≡ Some x)
-bind_some None f x h = absurd (cc)
-bind_some (Some a) f x h = (a, refl, h)
-
-pub only_if_some : {A : Type 0} (b : Bool) (y x : A) → cond b (Some y) None ≡ Some x → (b ≡ true) × (y ≡ x)
-only_if_some true y x h = (refl, (cc))
-only_if_some false y x h = absurd (cc)
-
-pub and_both : (a b : Bool) → (a && b) ≡ true → (a ≡ true) × (b ≡ true)
-and_both true b h = (refl, h)
-and_both false b h = absurd (false≢true h)
-
-ok_some : {T E : Type 0} (r : Result T E) (x : T) → result_ok r ≡ Some x → r ≡ Ok x
-ok_some {T} {E} (Ok y) x h = let same : y ≡ x = (cc) in ap (λ (z : T). let r : Result T E = Ok z in r) same
-ok_some (Err e) x h = absurd (cc)
-
-same_bytes : (a b : List ℕ) → bytes_eq a b ≡ true → a ≡ b
-same_bytes a b h = (bytes_eq-Decides a b).0 h
+use Rattle.shard_script.specs.declared.line.Line.TheVariants.{Shard, Tablet, Act}
+use Rattle.shard_script.specs.declared.script.Action.TheVariants.{Play, Start, Turn, Finish, Lapse, Tick}
+use Rattle.shard_script.specs.Numbers.{number_within, duration_reading}
+use Rattle.shard_script.specs.Names.{name_reading}
+use Rattle.shard_script.specs.Lines.{words_of, server_reading, kind_reading, shard_line, tablet_line, planned_command, planned_line, write_line, start_write_line, start_planned_line, turn_line, finish_line, tick_line, one_word, two_words, three_words, four_words, six_words, line_of_words, line_of}
+use Rattle.shard_script.specs.Grammar.{IsTypeWord, IsNumber, IsCommand, Says}
+use Rattle.shard_script.proofs.OptionLemmas.{cond_some, bind_some, ok_some, same_bytes, choose}
+use Rattle.shard_script.proofs.NumberLemmas.{within_of}
+use Rattle.shard_script.proofs.DurationLemmas.{duration_of}
+use Rattle.shard_script.proofs.NameLemmas.{name_of}
 
 -- ---- from what is read to what is said
 
@@ -78,86 +56,178 @@ says_tablet line alias kind server x words h =
       server_is = r.1;
     })
 
-says_planned : (line name option alias : List ℕ) (x : Line) → words_of line ≡ codes "PlannedReparentShard" ∷ name ∷ option ∷ alias ∷ [] → planned_line name option alias ≡ Some x → Says line x
-unfolding planned_line
-says_planned line name option alias x words h =
-    let p = cond_some (bytes_eq option (codes "--new-primary")) (shard_name_reading name >>= (λ n. result_ok (alias_reading alias) >>= (λ a. Some (Play (Planned n a) 1)))) x h in
-    let q = bind_some (shard_name_reading name) (λ n. result_ok (alias_reading alias) >>= (λ a. Some (Play (Planned n a) 1))) x p.1 in
-    let r = bind_some (result_ok (alias_reading alias)) (λ a. Some (Play (Planned q.0 a) 1)) x q.2 in
-    let is : Play (Planned q.0 r.0) 1 ≡ x = (let e : Some (Play (Planned q.0 r.0) 1) ≡ Some x = r.2 in cc) in
+planned_of : (name option alias : List ℕ) (c : Command) → planned_command name option alias ≡ Some c → IsCommand (codes "PlannedReparentShard" ∷ name ∷ option ∷ alias ∷ []) c 1
+unfolding planned_command
+planned_of name option alias c h =
+    let p = cond_some (bytes_eq option (codes "--new-primary")) (shard_name_reading name >>= (λ n. result_ok (alias_reading alias) >>= (λ a. Some (Planned n a)))) c h in
+    let q = bind_some (shard_name_reading name) (λ n. result_ok (alias_reading alias) >>= (λ a. Some (Planned n a))) c p.1 in
+    let r = bind_some (result_ok (alias_reading alias)) (λ a. Some (Planned q.0 a)) c q.2 in
+    let is : Planned q.0 r.0 ≡ c = (let e : Some (Planned q.0 r.0) ≡ Some c = r.2 in cc) in
     let word : option ≡ codes "--new-primary" = same_bytes option (codes "--new-primary") p.0 in
-    subst (λ (y : Line). Says line y) is (
+    subst (λ (d : Command). IsCommand (codes "PlannedReparentShard" ∷ name ∷ option ∷ alias ∷ []) d 1) is (
       record {
         name_text = name;
         alias_text = alias;
-        words = words ∙ ap (λ (t : List ℕ). codes "PlannedReparentShard" ∷ name ∷ t ∷ alias ∷ []) word;
+        words_are = ap (λ (t : List ℕ). codes "PlannedReparentShard" ∷ name ∷ t ∷ alias ∷ []) word;
         name_is = q.1;
         alias_is = ok_some (alias_reading alias) r.0 r.1;
       },
       refl,
     )
 
+says_planned : (line name option alias : List ℕ) (x : Line) → words_of line ≡ codes "PlannedReparentShard" ∷ name ∷ option ∷ alias ∷ [] → planned_line name option alias ≡ Some x → Says line x
+unfolding planned_line
+says_planned line name option alias x words h =
+    let p = bind_some (planned_command name option alias) (λ c. Some (Act (Play c 1))) x h in
+    let is : Act (Play p.0 1) ≡ x = (let e : Some (Act (Play p.0 1)) ≡ Some x = p.2 in cc) in
+    subst (λ (y : Line). Says line y) is (subst (λ (ws : List (List ℕ)). IsCommand ws p.0 1) (sym words) (planned_of name option alias p.0 p.1))
+
 says_write : (line count : List ℕ) (x : Line) → words_of line ≡ codes "write" ∷ count ∷ [] → write_line count ≡ Some x → Says line x
-unfolding write_line count_reading number_reading
+unfolding write_line
 says_write line count x words h =
-    let p = bind_some (count_reading count) (λ n. Some (Play Write n)) x h in
-    let q = bind_some (number_reading count) (λ n. only_if (nat_le 1 n && nat_le n 100) n) p.0 p.1 in
-    let range = only_if_some (nat_le 1 q.0 && nat_le q.0 100) q.0 p.0 q.2 in
-    let tests = and_both (nat_le 1 q.0) (nat_le q.0 100) range.0 in
-    let number = only_if_some (nat_le 1 (length count) && list_all is_ascii_digit count && nat_lt (digits_value 10 count) (2 ^ 64)) (digits_value 10 count) q.0 q.1 in
-    let sized = and_both (nat_le 1 (length count) && list_all is_ascii_digit count) (nat_lt (digits_value 10 count) (2 ^ 64)) number.0 in
-    let digits = and_both (nat_le 1 (length count)) (list_all is_ascii_digit count) sized.0 in
-    let some : nat_le 1 (length count) ≡ true = digits.0 in
-    let least : nat_le 1 q.0 ≡ true = tests.0 in
-    let most : nat_le q.0 100 ≡ true = tests.1 in
-    let is : Play Write p.0 ≡ x = (let e : Some (Play Write p.0) ≡ Some x = p.2 in cc) in
-    let same : q.0 ≡ p.0 = range.1 in
+    let p = bind_some (number_within 1 100 count) (λ n. Some (Act (Play Write n))) x h in
+    let within = within_of 1 100 count p.0 p.1 in
+    let is : Act (Play Write p.0) ≡ x = (let e : Some (Act (Play Write p.0)) ≡ Some x = p.2 in cc) in
+    subst (λ (y : Line). Says line y) is (record { digits = count; words_are = words; number = within.number; from_one = within.from_least; to_hundred = within.to_most })
+
+says_start_write : (line name head count : List ℕ) (x : Line) → words_of line ≡ codes "start" ∷ name ∷ head ∷ count ∷ [] → start_write_line name head count ≡ Some x → Says line x
+unfolding start_write_line
+says_start_write line name head count x words h =
+    let p = cond_some (bytes_eq head (codes "write")) (name_reading name >>= (λ n. number_within 1 1 count >>= (λ k. Some (Act (Start n Write))))) x h in
+    let q = bind_some (name_reading name) (λ n. number_within 1 1 count >>= (λ k. Some (Act (Start n Write)))) x p.1 in
+    let r = bind_some (number_within 1 1 count) (λ k. Some (Act (Start q.0 Write))) x q.2 in
+    let is : Act (Start q.0 Write) ≡ x = (let e : Some (Act (Start q.0 Write)) ≡ Some x = r.2 in cc) in
+    let named = name_of name q.0 q.1 in
+    let within = within_of 1 1 count r.0 r.1 in
+    let one : r.0 ≡ 1 = omega (arith, within.from_least, within.to_most) in
+    let word : head ≡ codes "write" = same_bytes head (codes "write") p.0 in
     subst (λ (y : Line). Says line y) is (record {
-      digits = count;
-      words = words;
-      some_digit = grind (arith, nat_tests);
-      are_digits = digits.1;
-      value = number.1 ∙ same;
-      from_one = subst (λ (n : ℕ). 1 ≤ n) same (grind (arith, nat_tests));
-      to_hundred = subst (λ (n : ℕ). n ≤ 100) same (grind (arith, nat_tests));
+      command_words = codes "write" ∷ count ∷ [];
+      words = words ∙ (λ i. codes "start" ∷ named.0 i ∷ word i ∷ count ∷ []);
+      is_name = named.1;
+      once = record { digits = count; words_are = refl; number = subst (λ (k : ℕ). IsNumber count k) one within.number; from_one = omega arith; to_hundred = omega arith };
     })
 
--- the first word by its test
+says_start_planned : (line name head shard option alias : List ℕ) (x : Line) → words_of line ≡ codes "start" ∷ name ∷ head ∷ shard ∷ option ∷ alias ∷ [] → start_planned_line name head shard option alias ≡ Some x → Says line x
+unfolding start_planned_line
+says_start_planned line name head shard option alias x words h =
+    let p = cond_some (bytes_eq head (codes "PlannedReparentShard")) (name_reading name >>= (λ n. planned_command shard option alias >>= (λ c. Some (Act (Start n c))))) x h in
+    let q = bind_some (name_reading name) (λ n. planned_command shard option alias >>= (λ c. Some (Act (Start n c)))) x p.1 in
+    let r = bind_some (planned_command shard option alias) (λ c. Some (Act (Start q.0 c))) x q.2 in
+    let is : Act (Start q.0 r.0) ≡ x = (let e : Some (Act (Start q.0 r.0)) ≡ Some x = r.2 in cc) in
+    let named = name_of name q.0 q.1 in
+    let word : head ≡ codes "PlannedReparentShard" = same_bytes head (codes "PlannedReparentShard") p.0 in
+    subst (λ (y : Line). Says line y) is (record {
+      command_words = codes "PlannedReparentShard" ∷ shard ∷ option ∷ alias ∷ [];
+      words = words ∙ (λ i. codes "start" ∷ named.0 i ∷ word i ∷ shard ∷ option ∷ alias ∷ []);
+      is_name = named.1;
+      once = planned_of shard option alias r.0 r.1;
+    })
+
+says_turn : (line name pumps : List ℕ) (x : Line) → words_of line ≡ codes "turn" ∷ name ∷ pumps ∷ [] → turn_line name pumps ≡ Some x → Says line x
+unfolding turn_line
+says_turn line name pumps x words h =
+    let p = bind_some (name_reading name) (λ n. number_within 1 1000000 pumps >>= (λ k. Some (Act (Turn n k)))) x h in
+    let q = bind_some (number_within 1 1000000 pumps) (λ k. Some (Act (Turn p.0 k))) x p.2 in
+    let is : Act (Turn p.0 q.0) ≡ x = (let e : Some (Act (Turn p.0 q.0)) ≡ Some x = q.2 in cc) in
+    let named = name_of name p.0 p.1 in
+    let within = within_of 1 1000000 pumps q.0 q.1 in
+    subst (λ (y : Line). Says line y) is (record {
+      digits = pumps;
+      words = words ∙ ap (λ (t : List ℕ). codes "turn" ∷ t ∷ pumps ∷ []) named.0;
+      is_name = named.1;
+      number = within.number;
+      from_one = within.from_least;
+      to_million = within.to_most;
+    })
+
+says_finish : (line name : List ℕ) (x : Line) → words_of line ≡ codes "finish" ∷ name ∷ [] → finish_line name ≡ Some x → Says line x
+unfolding finish_line
+says_finish line name x words h =
+    let p = bind_some (name_reading name) (λ n. Some (Act (Finish n))) x h in
+    let is : Act (Finish p.0) ≡ x = (let e : Some (Act (Finish p.0)) ≡ Some x = p.2 in cc) in
+    let named = name_of name p.0 p.1 in
+    subst (λ (y : Line). Says line y) is (record { words = words ∙ ap (λ (t : List ℕ). codes "finish" ∷ t ∷ []) named.0; is_name = named.1 })
+
+says_tick : (line duration : List ℕ) (x : Line) → words_of line ≡ codes "tick" ∷ duration ∷ [] → tick_line duration ≡ Some x → Says line x
+unfolding tick_line
+says_tick line duration x words h =
+    let p = bind_some (duration_reading duration) (λ n. Some (Act (Tick n))) x h in
+    let is : Act (Tick p.0) ≡ x = (let e : Some (Act (Tick p.0)) ≡ Some x = p.2 in cc) in
+    let d = duration_of duration p.0 p.1 in
+    subst (λ (y : Line). Says line y) is (record {
+      digits = d.digits;
+      unit_text = d.unit_text;
+      words = words ∙ ap (λ (t : List ℕ). codes "tick" ∷ t ∷ []) d.split;
+      count = d.count;
+      number = d.number;
+      few_digits = d.few_digits;
+      unit = d.unit;
+      is_unit = d.is_unit;
+      value = d.value;
+      to_a_day = d.to_a_day;
+    })
+
+-- ---- by the first word, which is told by its test
+
 first_is : (line a b : List ℕ) (rest : List (List ℕ)) → words_of line ≡ a ∷ rest → bytes_eq a b ≡ true → words_of line ≡ b ∷ rest
 first_is line a b rest words h = words ∙ ap (λ (t : List ℕ). t ∷ rest) (same_bytes a b h)
 
+says_one : (line a : List ℕ) (x : Line) → words_of line ≡ a ∷ [] → one_word a ≡ Some x → Says line x
+says_one line a x words h =
+    let p = cond_some (bytes_eq a (codes "lapse")) (Some (Act Lapse)) x h in
+    let is : Act Lapse ≡ x = (let e : Some (Act Lapse) ≡ Some x = p.1 in cc) in
+    subst (λ (y : Line). Says line y) is (first_is line a (codes "lapse") [] words p.0)
+
 says_two : (line a b : List ℕ) (x : Line) → words_of line ≡ a ∷ b ∷ [] → two_words a b ≡ Some x → Says line x
 says_two line a b x words h =
-    let p = cond_some (bytes_eq a (codes "write")) (write_line b) x h in
-    says_write line b x (first_is line a (codes "write") (b ∷ []) words p.0) p.1
+    let if_tick : Option Line = cond (bytes_eq a (codes "tick")) (tick_line b) None in
+    choose (Says line x) (bytes_eq a (codes "write")) (write_line b) (cond (bytes_eq a (codes "finish")) (finish_line b) if_tick) x h
+    (λ is got. says_write line b x (first_is line a (codes "write") (b ∷ []) words is) got)
+    (λ others. choose (Says line x) (bytes_eq a (codes "finish")) (finish_line b) if_tick x others
+    (λ is got. says_finish line b x (first_is line a (codes "finish") (b ∷ []) words is) got)
+    (λ last. let p = cond_some (bytes_eq a (codes "tick")) (tick_line b) x last in says_tick line b x (first_is line a (codes "tick") (b ∷ []) words p.0) p.1))
 
 says_three : (line a b c : List ℕ) (x : Line) → words_of line ≡ a ∷ b ∷ c ∷ [] → three_words a b c ≡ Some x → Says line x
 says_three line a b c x words h =
-    let p = cond_some (bytes_eq a (codes "shard")) (shard_line b c) x h in
-    says_shard line b c x (first_is line a (codes "shard") (b ∷ c ∷ []) words p.0) p.1
+    choose (Says line x) (bytes_eq a (codes "shard")) (shard_line b c) (cond (bytes_eq a (codes "turn")) (turn_line b c) None) x h
+    (λ is got. says_shard line b c x (first_is line a (codes "shard") (b ∷ c ∷ []) words is) got)
+    (λ last. let p = cond_some (bytes_eq a (codes "turn")) (turn_line b c) x last in says_turn line b c x (first_is line a (codes "turn") (b ∷ c ∷ []) words p.0) p.1)
 
-says_four_by : (line a b c d : List ℕ) (x : Line) (t : Bool) → bytes_eq a (codes "tablet") ≡ t → words_of line ≡ a ∷ b ∷ c ∷ d ∷ [] → cond t (tablet_line b c d) (cond (bytes_eq a (codes "PlannedReparentShard")) (planned_line b c d) None) ≡ Some x → Says line x
-says_four_by line a b c d x true is words h = says_tablet line b c d x (first_is line a (codes "tablet") (b ∷ c ∷ d ∷ []) words is) h
-says_four_by line a b c d x false is words h =
-    let p = cond_some (bytes_eq a (codes "PlannedReparentShard")) (planned_line b c d) x h in
-    says_planned line b c d x (first_is line a (codes "PlannedReparentShard") (b ∷ c ∷ d ∷ []) words p.0) p.1
+says_four : (line a b c d : List ℕ) (x : Line) → words_of line ≡ a ∷ b ∷ c ∷ d ∷ [] → four_words a b c d ≡ Some x → Says line x
+says_four line a b c d x words h =
+    let if_start : Option Line = cond (bytes_eq a (codes "start")) (start_write_line b c d) None in
+    choose (Says line x) (bytes_eq a (codes "tablet")) (tablet_line b c d) (cond (bytes_eq a (codes "PlannedReparentShard")) (planned_line b c d) if_start) x h
+    (λ is got. says_tablet line b c d x (first_is line a (codes "tablet") (b ∷ c ∷ d ∷ []) words is) got)
+    (λ others. choose (Says line x) (bytes_eq a (codes "PlannedReparentShard")) (planned_line b c d) if_start x others
+    (λ is got. says_planned line b c d x (first_is line a (codes "PlannedReparentShard") (b ∷ c ∷ d ∷ []) words is) got)
+    (λ last. let p = cond_some (bytes_eq a (codes "start")) (start_write_line b c d) x last in says_start_write line b c d x (first_is line a (codes "start") (b ∷ c ∷ d ∷ []) words p.0) p.1))
 
-too_many : (a b c d e : List ℕ) (ws : List (List ℕ)) → line_of_words (a ∷ b ∷ c ∷ d ∷ e ∷ ws) ≡ None
+says_six : (line a b c d e f : List ℕ) (x : Line) → words_of line ≡ a ∷ b ∷ c ∷ d ∷ e ∷ f ∷ [] → six_words a b c d e f ≡ Some x → Says line x
+says_six line a b c d e f x words h =
+    let p = cond_some (bytes_eq a (codes "start")) (start_planned_line b c d e f) x h in
+    says_start_planned line b c d e f x (first_is line a (codes "start") (b ∷ c ∷ d ∷ e ∷ f ∷ []) words p.0) p.1
+
+too_many : (a b c d e f g : List ℕ) (ws : List (List ℕ)) → line_of_words (a ∷ b ∷ c ∷ d ∷ e ∷ f ∷ g ∷ ws) ≡ None
 unfolding line_of_words
-too_many a b c d e ws =
-    let two : eqb (length (a ∷ b ∷ c ∷ d ∷ e ∷ ws)) 2 ≡ false = grind (arith, nat_tests) in
-    let three : eqb (length (a ∷ b ∷ c ∷ d ∷ e ∷ ws)) 3 ≡ false = grind (arith, nat_tests) in
-    let four : eqb (length (a ∷ b ∷ c ∷ d ∷ e ∷ ws)) 4 ≡ false = grind (arith, nat_tests) in
-    rw (two, three, four) refl
+too_many a b c d e f g ws =
+    let one : eqb (length (a ∷ b ∷ c ∷ d ∷ e ∷ f ∷ g ∷ ws)) 1 ≡ false = grind (arith, nat_tests) in
+    let two : eqb (length (a ∷ b ∷ c ∷ d ∷ e ∷ f ∷ g ∷ ws)) 2 ≡ false = grind (arith, nat_tests) in
+    let three : eqb (length (a ∷ b ∷ c ∷ d ∷ e ∷ f ∷ g ∷ ws)) 3 ≡ false = grind (arith, nat_tests) in
+    let four : eqb (length (a ∷ b ∷ c ∷ d ∷ e ∷ f ∷ g ∷ ws)) 4 ≡ false = grind (arith, nat_tests) in
+    let six : eqb (length (a ∷ b ∷ c ∷ d ∷ e ∷ f ∷ g ∷ ws)) 6 ≡ false = grind (arith, nat_tests) in
+    rw (one, two, three, four, six) refl
 
 says_words : (line : List ℕ) (words : List (List ℕ)) (x : Line) → words_of line ≡ words → line_of_words words ≡ Some x → Says line x
 unfolding line_of_words
 says_words line [] x e h = absurd (cc)
-says_words line (a ∷ []) x e h = absurd (cc)
+says_words line (a ∷ []) x e h = says_one line a x e h
 says_words line (a ∷ b ∷ []) x e h = says_two line a b x e h
 says_words line (a ∷ b ∷ c ∷ []) x e h = says_three line a b c x e h
-says_words line (a ∷ b ∷ c ∷ d ∷ []) x e h = says_four_by line a b c d x (bytes_eq a (codes "tablet")) refl e h
-says_words line (a ∷ b ∷ c ∷ d ∷ f ∷ ws) x e h = absurd (let none : None ≡ Some x = sym (too_many a b c d f ws) ∙ h in cc)
+says_words line (a ∷ b ∷ c ∷ d ∷ []) x e h = says_four line a b c d x e h
+says_words line (a ∷ b ∷ c ∷ d ∷ f ∷ []) x e h = absurd (cc)
+says_words line (a ∷ b ∷ c ∷ d ∷ f ∷ g ∷ []) x e h = says_six line a b c d f g x e h
+says_words line (a ∷ b ∷ c ∷ d ∷ f ∷ g ∷ k ∷ ws) x e h = absurd (let none : None ≡ Some x = sym (too_many a b c d f g k ws) ∙ h in cc)
 
 pub says_of : (line : List ℕ) (x : Line) → line_of line ≡ Some x → Says line x
 says_of line x h = says_words line (words_of line) x refl h

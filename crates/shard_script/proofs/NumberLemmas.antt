@@ -1,6 +1,6 @@
 -- Decimal digits, one after another.
-use Rattle.std.proofs.Common.{◌≡◌, ℕ, ◌+◌, ◌-◌, ◌*◌, ◌^◌, ◌<◌, ◌≤◌, List, Bool, true, false, cond, ◌&&◌, Some, None, length, take, get_or, refl, sym, ap, subst, ◌∙◌, arith}
-use Rattle.std.specs.Prelude.{nat_le, nat_lt}
+use Rattle.std.proofs.Common.{◌≡◌, ℕ, ◌+◌, ◌-◌, ◌*◌, ◌^◌, ◌<◌, ◌≤◌, List, Bool, true, false, cond, ◌&&◌, Option, Some, None, length, take, get_or, refl, sym, ap, subst, ◌∙◌, arith}
+use Rattle.std.specs.Prelude.{nat_le, nat_lt, option_and_then}
 use Rattle.std.specs.Char.{is_ascii_digit, digit_value}
 use Rattle.std.specs.List.{list_all}
 use Rattle.std.specs.Str.Parse.{digits_value}
@@ -8,8 +8,10 @@ use Rattle.std.proofs.lemmas.Bool.Decides.{nat_tests}
 use Rattle.std.proofs.lemmas.List.Folds.{list_all_at}
 use Rattle.std.proofs.lemmas.Int.Digits.{digits_value_more}
 use Rattle.std.proofs.lemmas.Str.Parse.{digits_value-take-le}
-use Rattle.shard_script.specs.Lines.{number_reading, with_digit}
-use Rattle.shard_script.proofs.LineLemmas.{only_if_some, and_both}
+use Rattle.shard_base.specs.Options.{only_if}
+use Rattle.shard_script.specs.Numbers.{number_reading, number_within, with_digit}
+use Rattle.shard_script.specs.Grammar.{IsNumber}
+use Rattle.shard_script.proofs.OptionLemmas.{bind_some, only_if_some, and_both}
 
 digit_is : (b : ℕ) → is_ascii_digit b ≡ true → digit_value b ≡ b - 48
 digit_is b h = grind (arith, nat_tests)
@@ -64,3 +66,44 @@ unfolding number_reading
 number_of_none text none =
     let one : nat_le 1 (length text) ≡ false = grind (arith, nat_tests) in
     rw one refl
+
+-- ---- numbers as the grammar has them
+
+pub number_of : (text : List ℕ) (n : ℕ) → number_reading text ≡ Some n → IsNumber text n
+unfolding number_reading
+number_of text n h =
+    let number = only_if_some (nat_le 1 (length text) && list_all is_ascii_digit text && nat_lt (digits_value 10 text) (2 ^ 64)) (digits_value 10 text) n h in
+    let sized = and_both (nat_le 1 (length text) && list_all is_ascii_digit text) (nat_lt (digits_value 10 text) (2 ^ 64)) number.0 in
+    let digits = and_both (nat_le 1 (length text)) (list_all is_ascii_digit text) sized.0 in
+    let some : nat_le 1 (length text) ≡ true = digits.0 in
+    record { some_digit = grind (arith, nat_tests); are_digits = digits.1; value = number.1 }
+
+pub number_reads : (text : List ℕ) (n : ℕ) → IsNumber text n → n < 2 ^ 64 → number_reading text ≡ Some n
+number_reads text n h small =
+    sym (number_is text h.some_digit h.are_digits (subst (λ (k : ℕ). k < 2 ^ 64) (sym h.value) small)) ∙ ap (λ (k : ℕ). Some k) h.value
+
+-- a number in its bounds
+pub record Within (least most : ℕ) (text : List ℕ) (n : ℕ) : Type 0 where
+  pub number : IsNumber text n
+  pub from_least : least ≤ n
+  pub to_most : n ≤ most
+
+pub within_of : (least most : ℕ) (text : List ℕ) (n : ℕ) → number_within least most text ≡ Some n → Within least most text n
+unfolding number_within
+within_of least most text n h =
+    let q = bind_some (number_reading text) (λ k. only_if (nat_le least k && nat_le k most) k) n h in
+    let range = only_if_some (nat_le least q.0 && nat_le q.0 most) q.0 n q.2 in
+    let tests = and_both (nat_le least q.0) (nat_le q.0 most) range.0 in
+    let low : nat_le least q.0 ≡ true = tests.0 in
+    let high : nat_le q.0 most ≡ true = tests.1 in
+    let above : least ≤ q.0 = grind (arith, nat_tests) in
+    let below : q.0 ≤ most = grind (arith, nat_tests) in
+    subst (λ (k : ℕ). Within least most text k) range.1 (record { number = number_of text q.0 q.1; from_least = above; to_most = below })
+
+pub within_reads : (least most : ℕ) (text : List ℕ) (n : ℕ) → IsNumber text n → least ≤ n → n ≤ most → most < 2 ^ 64 → number_within least most text ≡ Some n
+unfolding number_within
+within_reads least most text n number from to small =
+    let low : nat_le least n ≡ true = grind (arith, nat_tests) in
+    let high : nat_le n most ≡ true = grind (arith, nat_tests) in
+    let fits : n < 2 ^ 64 = omega (arith, to, small) in
+    ap (λ (o : Option ℕ). option_and_then (λ k. only_if (nat_le least k && nat_le k most) k) o) (number_reads text n number fits) ∙ rw (low, high) refl

@@ -1,5 +1,5 @@
 -- Lines read one after another.
-use Rattle.std.proofs.Common.{◌≡◌, ℕ, ◌+◌, ◌<◌, ◌≤◌, List, [], ◌∷◌, Bool, true, false, Option, Some, None, Result, Ok, Err, IfOk, cond, ltb, not, ◌&&◌, length, length-append, subst, refl, sym, ◌∙◌, arith}
+use Rattle.std.proofs.Common.{◌≡◌, ℕ, ◌+◌, ◌<◌, ◌≤◌, List, [], ◌∷◌, ◌++◌, Bool, true, false, Option, Some, None, Result, Ok, Err, IfOk, cond, ltb, not, ◌&&◌, length, length-append, append-nil, subst, refl, sym, ap, ◌∙◌, arith}
 use Rattle.std.specs.Prelude.{All, is_some, is_none, ◌==◌, nat_lt, nat_le, ⊤}
 use Rattle.std.specs.Str.{bytes_eq}
 use Rattle.std.proofs.lemmas.Bool.{false≢true}
@@ -10,18 +10,20 @@ use borrow.Author.Tests.{ltb-false}
 use Rattle.shard_names.specs.declared.shard_name.ShardName.{ShardName}
 use Rattle.shard_names.specs.declared.tablet.Tablet.{Tablet as TabletData}
 use Rattle.shard_names.specs.Tablets.{AreTablets}
-use Rattle.shard_core.specs.declared.command.Command.{Command}
 use Rattle.shard_core.specs.declared.command.Command.TheVariants.{Planned, Write}
 use Rattle.shard_script.specs.declared.line.Line.{Line}
-use Rattle.shard_script.specs.declared.line.Line.TheVariants.{Shard, Tablet, Play}
+use Rattle.shard_script.specs.declared.line.Line.TheVariants.{Shard, Tablet, Act}
 use Rattle.shard_script.specs.declared.script.Action.{Action}
 use Rattle.shard_script.specs.declared.script.Action.TheVariants as actions
 use Rattle.shard_script.specs.declared.script.Script.{Script}
 use Rattle.shard_script.specs.declared.script.ScriptFault.{ScriptFault}
+use Rattle.shard_script.specs.Names.{IsName, has_name, started_by, started, NamesDiffer, IsKnown, AreKnown}
 use Rattle.shard_script.specs.Lines.{line_of}
 use Rattle.shard_script.specs.Grammar.{Says}
-use Rattle.shard_script.specs.Script.{Gives, Fits, FitsShard, read_on, read_lines, with_bytes, reading, admits, with_line, has_alias, has_server, is_shard, empty_script, fault_behind, lines_of, ended_lines, first_bytes}
-use Rattle.shard_script.proofs.LineLemmas.{says_of, and_both}
+use Rattle.shard_script.specs.Script.{Gives, Fits, FitsShard, read_on, read_lines, with_bytes, reading, admits, admits_command, admits_name, admits_action, with_line, has_alias, has_server, is_shard, empty_script, fault_behind, lines_of, ended_lines, first_bytes}
+use Rattle.shard_script.proofs.OptionLemmas.{and_both, not_true}
+use Rattle.shard_script.proofs.NameLemmas.{started_more, known_more, differ_more, known_is}
+use Rattle.shard_script.proofs.LineLemmas.{says_of}
 use Rattle.shard_script.proofs.TabletsInOrder.{length-in_place, rises-in_place, apart-in_place}
 
 -- a line past the most that there may be
@@ -37,20 +39,38 @@ record SoFar (place : ℕ) (s : Script) : Type 0 where
   named : s.shard ≡ None → (s.tablets ≡ []) × (s.actions ≡ [])
   actions : All (FitsShard s.shard) s.actions
   few : length s.actions < place
+  starts : s.names ≡ started s.actions
+  are_names : All IsName s.names
+  few_names : length s.names ≤ 16
+  names_differ : NamesDiffer s.names
+  known : AreKnown [] s.actions
 
--- how often a line gives its command
+-- what an action's line says of its numbers and its name
+CountedAction : Action → Type 0
+CountedAction (actions.Play (Planned name a) n) = n ≡ 1
+CountedAction (actions.Play Write n) = (1 ≤ n) × (n ≤ 100)
+CountedAction (actions.Start name command) = IsName name
+CountedAction (actions.Turn name pumps) = (1 ≤ pumps) × (pumps ≤ 1000000)
+CountedAction (actions.Finish name) = ⊤
+CountedAction actions.Lapse = ⊤
+CountedAction (actions.Tick milliseconds) = milliseconds ≤ 86400000
+
 Counted : Line → Type 0
 Counted (Shard name) = ⊤
 Counted (Tablet t) = ⊤
-Counted (Play (Planned name a) n) = n ≡ 1
-Counted (Play Write n) = (1 ≤ n) × (n ≤ 100)
+Counted (Act x) = CountedAction x
 
 counted : (line : List ℕ) (x : Line) → Says line x → Counted x
-unfolding Counted
+unfolding Counted CountedAction
 counted line (Shard name) h = tt
 counted line (Tablet t) h = tt
-counted line (Play (Planned name a) n) h = h.1
-counted line (Play Write n) h = (h.from_one, h.to_hundred)
+counted line (Act (actions.Play (Planned name a) n)) h = h.1
+counted line (Act (actions.Play Write n)) h = (h.from_one, h.to_hundred)
+counted line (Act (actions.Start name command)) h = h.is_name
+counted line (Act (actions.Turn name pumps)) h = (h.from_one, h.to_million)
+counted line (Act (actions.Finish name)) h = tt
+counted line (Act actions.Lapse) h = tt
+counted line (Act (actions.Tick milliseconds)) h = h.to_a_day
 
 pub none_is : {A : Type 0} (o : Option A) → is_none o ≡ true → o ≡ None
 none_is None h = refl
@@ -59,10 +79,6 @@ none_is (Some x) h = absurd (false≢true h)
 pub some_not : {A : Type 0} (o : Option A) → is_some o ≡ true → o ≡ None → ⊥
 some_not None h e = false≢true h
 some_not (Some x) h e = absurd (cc)
-
-pub not_true : (b : Bool) → not b ≡ true → b ≡ false
-not_true true h = absurd (false≢true h)
-not_true false h = refl
 
 pub shard_is : (o : Option ShardName) (name : ShardName) → is_shard o name ≡ true → o ≡ Some name
 shard_is None name h = absurd (false≢true h)
@@ -81,6 +97,11 @@ one_shard place s name h ok =
       named = λ unnamed. absurd (cc);
       actions = subst (λ (xs : List Action). All (FitsShard (Some name)) xs) (sym empty.1) (All-nil (FitsShard (Some name)));
       few = omega (arith, h.few);
+      starts = h.starts;
+      are_names = h.are_names;
+      few_names = h.few_names;
+      names_differ = h.names_differ;
+      known = h.known;
     }
 
 one_tablet : (place : ℕ) (s : Script) (t : TabletData) → SoFar place s → admits s (Tablet t) ≡ true → SoFar (place + 1) (with_line s (Tablet t))
@@ -100,36 +121,85 @@ one_tablet place s t h ok =
       named = λ unnamed. absurd (some_not s.shard p4.0 unnamed);
       actions = h.actions;
       few = omega (arith, h.few);
+      starts = h.starts;
+      are_names = h.are_names;
+      few_names = h.few_names;
+      names_differ = h.names_differ;
+      known = h.known;
     }
 
-one_command : (place : ℕ) (s : Script) (command : Command) (n : ℕ) → Counted (Play command n) → SoFar place s → admits s (Play command n) ≡ true → SoFar (place + 1) (with_line s (Play command n))
-unfolding Counted
-one_command place s (Planned name a) n once h ok =
-    let shard : s.shard ≡ Some name = shard_is s.shard name ok in
-    let action : Action = actions.Play (Planned name a) n in
-    let one : FitsShard s.shard action = (shard, once) in
+fits_one : (s : Script) (x : Action) → CountedAction x → admits_action s x ≡ true → FitsShard s.shard x
+unfolding CountedAction
+fits_one s (actions.Play (Planned name a) n) once ok = (shard_is s.shard name ok, once)
+fits_one s (actions.Play Write n) range ok = range
+fits_one s (actions.Start name (Planned shard a)) named ok = shard_is s.shard shard (and_both (is_shard s.shard shard) (admits_name s name) ok).0
+fits_one s (actions.Start name Write) named ok = tt
+fits_one s (actions.Turn name pumps) range ok = range
+fits_one s (actions.Finish name) counts ok = tt
+fits_one s actions.Lapse counts ok = tt
+fits_one s (actions.Tick milliseconds) day ok = day
+
+-- ---- the names with the one that an action starts
+
+names_of : (x : Action) → CountedAction x → All IsName (started_by x)
+unfolding CountedAction
+names_of (actions.Play command n) h = All-nil IsName
+names_of (actions.Start name command) h = All-cons IsName name [] h (All-nil IsName)
+names_of (actions.Turn name pumps) h = All-nil IsName
+names_of (actions.Finish name) h = All-nil IsName
+names_of actions.Lapse h = All-nil IsName
+names_of (actions.Tick milliseconds) h = All-nil IsName
+
+-- names that keep to P do so with the one that an action starts
+with_names : (P : List (List ℕ) → Type 0) (s : Script) (x : Action) → P s.names → ((name : List ℕ) → admits_name s name ≡ true → P (s.names ++ name ∷ [])) → admits_action s x ≡ true → P (s.names ++ started_by x)
+with_names P s (actions.Play command n) h more ok = subst P (sym (append-nil s.names)) h
+with_names P s (actions.Start name command) h more ok = more name (and_both (admits_command s command) (admits_name s name) ok).1
+with_names P s (actions.Turn name pumps) h more ok = subst P (sym (append-nil s.names)) h
+with_names P s (actions.Finish name) h more ok = subst P (sym (append-nil s.names)) h
+with_names P s actions.Lapse h more ok = subst P (sym (append-nil s.names)) h
+with_names P s (actions.Tick milliseconds) h more ok = subst P (sym (append-nil s.names)) h
+
+few_with : (s : Script) (name : List ℕ) → admits_name s name ≡ true → length (s.names ++ name ∷ []) ≤ 16
+few_with s name ok =
+    let tests = and_both (nat_lt (length s.names) 16) (not (has_name s.names name)) ok in
+    let room : ltb (length s.names) 16 ≡ true = tests.0 in
+    let few : length s.names < 16 = grind (arith, nat_tests) in
+    omega (arith, few, length-append s.names (name ∷ []))
+
+differ_with : (s : Script) (name : List ℕ) → NamesDiffer s.names → admits_name s name ≡ true → NamesDiffer (s.names ++ name ∷ [])
+differ_with s name h ok =
+    let tests = and_both (nat_lt (length s.names) 16) (not (has_name s.names name)) ok in
+    differ_more s.names name h (not_true (has_name s.names name) tests.1)
+
+known_one : (s : Script) (x : Action) → admits_action s x ≡ true → IsKnown s.names x
+known_one s (actions.Play command n) ok = tt
+known_one s (actions.Start name command) ok = tt
+known_one s (actions.Turn name pumps) ok = known_is s.names name ok
+known_one s (actions.Finish name) ok = known_is s.names name ok
+known_one s actions.Lapse ok = tt
+known_one s (actions.Tick milliseconds) ok = tt
+
+one_action : (place : ℕ) (s : Script) (x : Action) → CountedAction x → SoFar place s → admits s (Act x) ≡ true → SoFar (place + 1) (with_line s (Act x))
+one_action place s x count h ok =
+    let tests = and_both (is_some s.shard) (admits_action s x) ok in
     record {
       tablets = h.tablets;
       few_tablets = h.few_tablets;
-      named = λ unnamed. absurd (let e : Some name ≡ None = sym shard ∙ unnamed in cc);
-      actions = All-append (FitsShard s.shard) s.actions (action ∷ []) h.actions (All-cons (FitsShard s.shard) action [] one (All-nil (FitsShard s.shard)));
-      few = omega (arith, h.few, length-append s.actions (action ∷ []));
-    }
-one_command place s Write n range h ok =
-    let action : Action = actions.Play Write n in
-    let one : FitsShard s.shard action = range in
-    record {
-      tablets = h.tablets;
-      few_tablets = h.few_tablets;
-      named = λ unnamed. absurd (some_not s.shard ok unnamed);
-      actions = All-append (FitsShard s.shard) s.actions (action ∷ []) h.actions (All-cons (FitsShard s.shard) action [] one (All-nil (FitsShard s.shard)));
-      few = omega (arith, h.few, length-append s.actions (action ∷ []));
+      named = λ unnamed. absurd (some_not s.shard tests.0 unnamed);
+      actions = All-append (FitsShard s.shard) s.actions (x ∷ []) h.actions (All-cons (FitsShard s.shard) x [] (fits_one s x count tests.1) (All-nil (FitsShard s.shard)));
+      few = omega (arith, h.few, length-append s.actions (x ∷ []));
+      starts = ap (λ (ns : List (List ℕ)). ns ++ started_by x) h.starts ∙ sym (started_more s.actions x);
+      are_names = All-append IsName s.names (started_by x) h.are_names (names_of x count);
+      few_names = with_names (λ ns. length ns ≤ 16) s x h.few_names (λ name free. few_with s name free) tests.1;
+      names_differ = with_names NamesDiffer s x h.names_differ (λ name free. differ_with s name h.names_differ free) tests.1;
+      known = known_more [] s.actions x h.known (subst (λ (ns : List (List ℕ)). IsKnown ns x) h.starts (known_one s x tests.1));
     }
 
 one_line : (place : ℕ) (s : Script) (line : Line) → Counted line → SoFar place s → admits s line ≡ true → SoFar (place + 1) (with_line s line)
+unfolding Counted
 one_line place s (Shard name) count h ok = one_shard place s name h ok
 one_line place s (Tablet t) count h ok = one_tablet place s t h ok
-one_line place s (Play command n) count h ok = one_command place s command n count h ok
+one_line place s (Act x) count h ok = one_action place s x count h ok
 
 -- a line that was added may stand there
 pub admitted : (s t : Script) (line : Line) (b : Bool) → cond b (Some (with_line s line)) None ≡ Some t → (b ≡ true) × (with_line s line ≡ t)
@@ -158,7 +228,7 @@ on_more place s t l ls false (Some u) past with h got rest = rest u (one_more pl
 fits_on : (place : ℕ) (s t : Script) (ls : List (List ℕ)) → SoFar place s → place ≤ 1001 → read_on place s ls ≡ Ok t → Fits t
 fits_on place s t [] h le got =
     let same : s ≡ t = (let e : Ok s ≡ Ok t = got in cc) in
-    subst (λ (x : Script). Fits x) same (record { tablets = h.tablets; few_tablets = h.few_tablets; named = h.named; actions = h.actions; few_actions = omega (arith, h.few) })
+    subst (λ (x : Script). Fits x) same (record { tablets = h.tablets; few_tablets = h.few_tablets; named = h.named; actions = h.actions; few_actions = omega (arith, h.few); starts = h.starts; are_names = h.are_names; few_names = h.few_names; names_differ = h.names_differ; known = h.known })
 fits_on place s t (l ∷ ls) h le got = on_more place s t l ls (ltb 1000 place) (with_bytes s l) refl refl h got (λ u k less more. fits_on (place + 1) u t ls k less more)
 
 opening : SoFar 1 empty_script
@@ -168,6 +238,11 @@ opening = record {
   named = λ unnamed. (refl, refl);
   actions = All-nil (FitsShard None);
   few = omega arith;
+  starts = refl;
+  are_names = All-nil IsName;
+  few_names = omega arith;
+  names_differ = tt;
+  known = tt;
 }
 
 pub fits_lines : (ls : List (List ℕ)) (s : Script) → read_lines ls ≡ Ok s → Fits s

@@ -1,5 +1,5 @@
 -- What the grammar spells is read, and faults stand where it has none.
-use Rattle.std.proofs.Common.{◌≡◌, ◌≢◌, ℕ, suc, ◌+◌, ◌<◌, ◌≤◌, List, [], ◌∷◌, ◌++◌, Bool, true, false, cond, ltb, not, ◌&&◌, ◌||◌, Option, Some, None, Result, Ok, Err, length, refl, sym, ap, ◌∙◌, arith}
+use Rattle.std.proofs.Common.{◌≡◌, ◌≢◌, ℕ, suc, ◌+◌, ◌<◌, ◌≤◌, List, [], ◌∷◌, ◌++◌, Bool, true, false, cond, ltb, not, ◌&&◌, Option, Some, None, Result, Ok, Err, length, refl, sym, ap, subst, ◌∙◌, arith}
 use Rattle.std.specs.Prelude.{All, is_some, ◌==◌, nat_lt, nat_le}
 use Rattle.std.specs.List.{AllZip}
 use Rattle.std.specs.Str.{bytes_eq}
@@ -15,13 +15,15 @@ use Rattle.shard_names.proofs.TabletLemmas.{alias_eq-Decides, both}
 use Rattle.shard_core.specs.declared.command.Command.{Command}
 use Rattle.shard_core.specs.declared.command.Command.TheVariants.{Planned, Write}
 use Rattle.shard_script.specs.declared.line.Line.{Line}
-use Rattle.shard_script.specs.declared.line.Line.TheVariants.{Shard, Tablet, Play}
+use Rattle.shard_script.specs.declared.line.Line.TheVariants.{Shard, Tablet, Act}
 use Rattle.shard_script.specs.declared.script.Action.{Action}
 use Rattle.shard_script.specs.declared.script.Action.TheVariants as actions
 use Rattle.shard_script.specs.declared.script.Script.{Script}
-use Rattle.shard_script.specs.Script.{read_on, read_lines, with_bytes, admits, with_line, has_alias, has_server, is_shard, shard_eq, in_place, empty_script, reading, lines_of, ended_lines, first_bytes, fault_behind}
-use Rattle.shard_script.specs.Grammar.{IsTabletLine, IsActionLine, Says, AliasesDiffer, IsOfShard, IsShardScript, IsScript, Spell, Spells, ReadsAsSpelled}
+use Rattle.shard_script.specs.Names.{has_name, started_by, started, NamesDiffer, IsKnown, AreKnown}
+use Rattle.shard_script.specs.Script.{read_on, read_lines, with_bytes, admits, admits_command, admits_name, admits_action, with_line, has_alias, has_server, is_shard, shard_eq, in_place, empty_script, reading, lines_of, ended_lines, first_bytes, fault_behind}
+use Rattle.shard_script.specs.Grammar.{IsTabletLine, IsActionLine, Says, AliasesDiffer, IsCommandOf, IsOfShard, IsShardScript, IsScript, Spell, Spells, ReadsAsSpelled}
 use Rattle.shard_script.specs.Grammar.IsScript.{is_empty, is_shard_script}
+use Rattle.shard_script.proofs.NameLemmas.{not_same, or_none, not_before, is_known}
 use Rattle.shard_script.proofs.LineReads.{of_says}
 use Rattle.shard_script.proofs.TabletsInOrder.{any-in_place, rises_once, length-in_place}
 use Rattle.shard_script.proofs.ScriptLemmas.{fits_lines, lines_read}
@@ -42,13 +44,6 @@ added_is s l line says ok =
     ∙ ap (λ (b : Bool). cond b (Some (with_line s line)) None) ok
 
 -- ---- the tablets' lines
-
-not_same : (b : Bool) → (b ≡ true → ⊥) → b ≡ false
-not_same true h = absurd (h refl)
-not_same false h = refl
-
-or_none : (a b : Bool) → a ≡ false → b ≡ false → (a || b) ≡ false
-or_none a b p q = rw (p, q) refl
 
 new_after : (d : TabletData) (ts : List TabletData) (e : TabletData) → IsNew ts e → d.alias ≢ e.alias → (bytes_eq d.server e.server ≡ true → ⊥) → IsNew (in_place d ts) e
 new_after d ts e h other apart = record {
@@ -86,23 +81,42 @@ tablets_on place s name (l ∷ tl) al (d ∷ ds) said named none few new aliases
 same_shard : (name : ShardName) → shard_eq name name ≡ true
 same_shard name = both (bytes_eq name.keyspace name.keyspace) (bytes_eq name.shard name.shard) ((bytes_eq-Decides name.keyspace name.keyspace).1 refl) ((bytes_eq-Decides name.shard name.shard).1 refl)
 
-command_admitted : (s : Script) (name : ShardName) (c : Command) (n : ℕ) → s.shard ≡ Some name → IsOfShard name (actions.Play c n) → admits s (Play c n) ≡ true
-command_admitted s name (Planned m a) n named of =
+command_admitted : (s : Script) (name : ShardName) (c : Command) → s.shard ≡ Some name → IsCommandOf name c → admits_command s c ≡ true
+command_admitted s name (Planned m a) named of =
     ap (λ (o : Option ShardName). is_shard o m) named ∙ ap (λ (k : ShardName). shard_eq name k) of ∙ same_shard name
-command_admitted s name Write n named of = ap (λ (o : Option ShardName). is_some o) named
+command_admitted s name Write named of = refl
 
-actions_on : (place : ℕ) (s : Script) (name : ShardName) (al : List (List ℕ)) (xs : List Action) → AllZip IsActionLine al xs → s.shard ≡ Some name → All (IsOfShard name) xs → place + length al ≤ 1001 → read_on place s al ≡ Ok (record s { actions = s.actions ++ xs })
-actions_on place s name [] [] said named of lines = ap (λ (ys : List Action). Ok (record s { actions = ys })) (sym (append-nil s.actions))
-actions_on place s name [] (x ∷ xs) said named of lines = absurd said
-actions_on place s name (l ∷ al) [] said named of lines = absurd said
-actions_on place s name (l ∷ al) (actions.Play c n ∷ xs) said named of lines =
-    let x : Action = actions.Play c n in
-    let u : Script = with_line s (Play c n) in
-    let ok : admits s (Play c n) ≡ true = command_admitted s name c n named (All-head (IsOfShard name) x xs of) in
+-- a name that differs from those before it, where there is room
+name_admitted : (s : Script) (n : List ℕ) (ns : List (List ℕ)) → NamesDiffer (s.names ++ n ∷ ns) → length (s.names ++ n ∷ ns) ≤ 16 → admits_name s n ≡ true
+name_admitted s n ns differ few =
+    let size : length (s.names ++ n ∷ ns) ≡ length s.names + length (n ∷ ns) = length-append s.names (n ∷ ns) in
+    let room : nat_lt (length s.names) 16 ≡ true = grind (arith, nat_tests) in
+    both (nat_lt (length s.names) 16) (not (has_name s.names n)) room (ap (λ (b : Bool). not b) (not_before s.names n ns differ))
+
+action_allowed : (s : Script) (name : ShardName) (x : Action) (ns : List (List ℕ)) → s.shard ≡ Some name → IsOfShard name x → IsKnown s.names x → NamesDiffer (s.names ++ (started_by x ++ ns)) → length (s.names ++ (started_by x ++ ns)) ≤ 16 → admits_action s x ≡ true
+action_allowed s name (actions.Play c n) ns named of known differ few = command_admitted s name c named of
+action_allowed s name (actions.Start n c) ns named of known differ few = both (admits_command s c) (admits_name s n) (command_admitted s name c named of) (name_admitted s n ns differ few)
+action_allowed s name (actions.Turn n pumps) ns named of known differ few = is_known s.names n known
+action_allowed s name (actions.Finish n) ns named of known differ few = is_known s.names n known
+action_allowed s name actions.Lapse ns named of known differ few = refl
+action_allowed s name (actions.Tick milliseconds) ns named of known differ few = refl
+
+actions_on : (place : ℕ) (s : Script) (name : ShardName) (al : List (List ℕ)) (xs : List Action) → AllZip IsActionLine al xs → s.shard ≡ Some name → All (IsOfShard name) xs → AreKnown s.names xs → NamesDiffer (s.names ++ started xs) → length (s.names ++ started xs) ≤ 16 → place + length al ≤ 1001 → read_on place s al ≡ Ok (record s { names = s.names ++ started xs; actions = s.actions ++ xs })
+actions_on place s name [] [] said named of known differ few lines =
+    let names : s.names ≡ s.names ++ [] = sym (append-nil s.names) in
+    let done : s.actions ≡ s.actions ++ [] = sym (append-nil s.actions) in
+    λ i. Ok (record s { names = names i; actions = done i })
+actions_on place s name [] (x ∷ xs) said named of known differ few lines = absurd said
+actions_on place s name (l ∷ al) [] said named of known differ few lines = absurd said
+actions_on place s name (l ∷ al) (x ∷ xs) said named of known differ few lines =
+    let u : Script = with_line s (Act x) in
+    let ok : admits s (Act x) ≡ true = both (is_some s.shard) (admits_action s x) (ap (λ (o : Option ShardName). is_some o) named) (action_allowed s name x (started xs) named (All-head (IsOfShard name) x xs of) known.0 differ few) in
+    let names : (s.names ++ started_by x) ++ started xs ≡ s.names ++ (started_by x ++ started xs) = append_assoc s.names (started_by x) (started xs) in
     let join : (s.actions ++ x ∷ []) ++ xs ≡ s.actions ++ x ∷ xs = append_assoc s.actions (x ∷ []) xs in
-    step_on place s u l al (omega arith) (added_is s l (Play c n) said.0 ok)
-    ∙ actions_on (place + 1) u name al xs said.1 named (All-tail (IsOfShard name) x xs of) (omega arith)
-    ∙ ap (λ (ys : List Action). Ok (record s { actions = ys })) join
+    let whole : Ok (record s { names = (s.names ++ started_by x) ++ started xs; actions = (s.actions ++ x ∷ []) ++ xs }) ≡ Ok (record s { names = s.names ++ (started_by x ++ started xs); actions = s.actions ++ x ∷ xs }) = λ i. Ok (record s { names = names i; actions = join i }) in
+    step_on place s u l al (omega arith) (added_is s l (Act x) said.0 ok)
+    ∙ actions_on (place + 1) u name al xs said.1 named (All-tail (IsOfShard name) x xs of) known.1 (subst NamesDiffer (sym names) differ) (subst (λ (ns : List (List ℕ)). length ns ≤ 16) (sym names) few) (omega arith)
+    ∙ whole
 
 -- ---- all lines
 
@@ -111,18 +125,19 @@ shard_read lines s few g =
     let named : Script = with_line empty_script (Shard g.name) in
     let size : length (g.tablet_lines ++ g.action_lines) ≡ length g.tablet_lines + length g.action_lines = length-append g.tablet_lines g.action_lines in
     let all_lines : length lines ≡ suc (length (g.tablet_lines ++ g.action_lines)) = ap (λ (ls : List (List ℕ)). length ls) g.split in
-    let got : read_lines lines ≡ Ok (record { shard = Some g.name; tablets = placed [] g.declared; actions = s.actions }) =
+    let got : read_lines lines ≡ Ok (record { shard = Some g.name; tablets = placed [] g.declared; names = started s.actions; actions = s.actions }) =
     ap (λ (ls : List (List ℕ)). read_lines ls) g.split
     ∙ step_on 1 empty_script named g.first (g.tablet_lines ++ g.action_lines) (omega arith) (added_is empty_script g.first (Shard g.name) g.says_shard refl)
     ∙ tablets_on 2 named g.name g.tablet_lines g.action_lines g.declared g.say_tablets refl refl (omega (arith, g.few_tablets)) (λ k d lt. record { alias = refl; server = refl }) g.aliases_differ g.servers_differ (omega (arith, few, size, all_lines))
-    ∙ actions_on (2 + length g.tablet_lines) (record named { tablets = placed [] g.declared }) g.name g.action_lines s.actions g.say_actions refl g.of_shard (omega (arith, few, size, all_lines)) in
-    let rise : AliasesRise (placed [] g.declared) = (fits_lines lines (record { shard = Some g.name; tablets = placed [] g.declared; actions = s.actions }) got).tablets.in_order in
+    ∙ actions_on (2 + length g.tablet_lines) (record named { tablets = placed [] g.declared }) g.name g.action_lines s.actions g.say_actions refl g.of_shard g.known (subst NamesDiffer g.names g.names_differ) (subst (λ (ns : List (List ℕ)). length ns ≤ 16) g.names g.few_names) (omega (arith, few, size, all_lines)) in
+    let rise : AliasesRise (placed [] g.declared) = (fits_lines lines (record { shard = Some g.name; tablets = placed [] g.declared; names = started s.actions; actions = s.actions }) got).tablets.in_order in
     let here = permuted_all g.declared in
     let same : placed [] g.declared ≡ s.tablets = rises_once (placed [] g.declared) s.tablets rise g.in_order
     (λ P h. All-permutation P g.declared s.tablets g.tablets (All-permutation P (placed [] g.declared) g.declared (IsPermutation-sym g.declared (placed [] g.declared) here) h))
     (λ P h. All-permutation P g.declared (placed [] g.declared) here (All-permutation P s.tablets g.declared (IsPermutation-sym g.declared s.tablets g.tablets) h)) in
     let shard : Some g.name ≡ s.shard = sym g.shard in
-    let whole : record { shard = Some g.name; tablets = placed [] g.declared; actions = s.actions } ≡ s = λ i. record { shard = shard i; tablets = same i; actions = s.actions } in
+    let names : started s.actions ≡ s.names = sym g.names in
+    let whole : record { shard = Some g.name; tablets = placed [] g.declared; names = started s.actions; actions = s.actions } ≡ s = λ i. record { shard = shard i; tablets = same i; names = names i; actions = s.actions } in
     got ∙ ap (λ (t : Script). Ok t) whole
 
 script_read : (lines : List (List ℕ)) (s : Script) → length lines ≤ 1000 → IsScript lines s → read_lines lines ≡ Ok s

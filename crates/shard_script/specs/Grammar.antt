@@ -1,5 +1,5 @@
 -- The grammar of a script: what each line says, and which lines make a script. The words of a line are parted by single spaces.
-use Rattle.std.specs.Prelude.{◌≡◌, ◌≢◌, ◌↔◌, ℕ, ◌+◌, ◌-◌, ◌<◌, ◌≤◌, List, [], ◌∷◌, ◌++◌, true, Some, Ok, Err, length, take, All, codes, ⊤}
+use Rattle.std.specs.Prelude.{◌≡◌, ◌≢◌, ◌↔◌, ℕ, ◌+◌, ◌-◌, ◌*◌, ◌<◌, ◌≤◌, List, [], ◌∷◌, ◌++◌, true, Some, Ok, Err, length, take, All, codes, ⊤}
 use Rattle.std.specs.Char.{is_ascii_digit}
 use Rattle.std.specs.List.{list_all, AllZip}
 use Rattle.std.specs.List.Sorted.{IsPermutation}
@@ -12,12 +12,14 @@ use Rattle.shard_names.specs.declared.tablet.Tablet.{Tablet as TabletData}
 use Rattle.shard_names.specs.declared.tablet.TabletType.{TabletType}
 use Rattle.shard_names.specs.declared.tablet.TabletType.TheVariants.{Replica, Rdonly, Spare}
 use Rattle.shard_names.specs.Tablets.{AliasesRise, ServersDiffer}
+use Rattle.shard_core.specs.declared.command.Command.{Command}
 use Rattle.shard_core.specs.declared.command.Command.TheVariants.{Planned, Write}
 use Rattle.shard_script.specs.declared.line.Line.{Line}
-use Rattle.shard_script.specs.declared.line.Line.TheVariants.{Shard, Tablet, Play}
+use Rattle.shard_script.specs.declared.line.Line.TheVariants.{Shard, Tablet, Act}
 use Rattle.shard_script.specs.declared.script.Action.{Action}
 use Rattle.shard_script.specs.declared.script.Action.TheVariants as actions
 use Rattle.shard_script.specs.declared.script.Script.{Script}
+use Rattle.shard_script.specs.Names.{IsName, started, NamesDiffer, AreKnown}
 use Rattle.shard_script.specs.Lines.{words_of, server_reading}
 use Rattle.shard_script.specs.Script.{empty_script, lines_of, ended_lines, first_bytes, reading}
 
@@ -44,33 +46,90 @@ pub record IsTabletLine (line : List ℕ) (tablet : TabletData) : Type 0 where
   pub server_is : server_reading server_text ≡ Some tablet.server
 
 -- `PlannedReparentShard K/S --new-primary ALIAS`
-pub record IsPlannedLine (line : List ℕ) (name : ShardName) (new_primary : Alias) : Type 0 where
+pub record IsPlanned (words : List (List ℕ)) (name : ShardName) (new_primary : Alias) : Type 0 where
   pub name_text : List ℕ
   pub alias_text : List ℕ
-  pub words : words_of line ≡ codes "PlannedReparentShard" ∷ name_text ∷ codes "--new-primary" ∷ alias_text ∷ []
+  pub words_are : words ≡ codes "PlannedReparentShard" ∷ name_text ∷ codes "--new-primary" ∷ alias_text ∷ []
   pub name_is : shard_name_reading name_text ≡ Some name
   pub alias_is : alias_reading alias_text ≡ Ok new_primary
 
--- `write N`: N in decimal digits, from 1 to 100
-pub record IsWriteLine (line : List ℕ) (count : ℕ) : Type 0 where
-  pub digits : List ℕ
-  pub words : words_of line ≡ codes "write" ∷ digits ∷ []
+-- a number in decimal digits
+pub record IsNumber (digits : List ℕ) (n : ℕ) : Type 0 where
   pub some_digit : 0 < length digits
   pub are_digits : list_all is_ascii_digit digits ≡ true
-  pub value : digits_value 10 digits ≡ count
+  pub value : digits_value 10 digits ≡ n
+
+-- `write N`: N from 1 to 100
+pub record IsWrite (words : List (List ℕ)) (count : ℕ) : Type 0 where
+  pub digits : List ℕ
+  pub words_are : words ≡ codes "write" ∷ digits ∷ []
+  pub number : IsNumber digits count
   pub from_one : 1 ≤ count
   pub to_hundred : count ≤ 100
 
--- a line that gives a command
+-- the words of a command that is given so many times
+abbrev pub IsCommand : List (List ℕ) → Command → ℕ → Type 0
+IsCommand words (Planned name a) n = IsPlanned words name a × (n ≡ 1)
+IsCommand words Write n = IsWrite words n
+
+-- `start NAME COMMAND`: a command that is given once
+pub record IsStartLine (line name : List ℕ) (command : Command) : Type 0 where
+  pub command_words : List (List ℕ)
+  pub words : words_of line ≡ codes "start" ∷ name ∷ command_words
+  pub is_name : IsName name
+  pub once : IsCommand command_words command 1
+
+-- `turn NAME K`: K from 1 to 1,000,000
+pub record IsTurnLine (line name : List ℕ) (pumps : ℕ) : Type 0 where
+  pub digits : List ℕ
+  pub words : words_of line ≡ codes "turn" ∷ name ∷ digits ∷ []
+  pub is_name : IsName name
+  pub number : IsNumber digits pumps
+  pub from_one : 1 ≤ pumps
+  pub to_million : pumps ≤ 1000000
+
+-- `finish NAME`
+pub record IsFinishLine (line name : List ℕ) : Type 0 where
+  pub words : words_of line ≡ codes "finish" ∷ name ∷ []
+  pub is_name : IsName name
+
+-- `lapse`
+abbrev pub IsLapseLine : List ℕ → Type 0
+IsLapseLine line = words_of line ≡ codes "lapse" ∷ []
+
+-- a unit and its milliseconds
+pub data IsUnit (text : List ℕ) (milliseconds : ℕ) : Type 0 where
+  is_millisecond : text ≡ codes "ms" → milliseconds ≡ 1 → IsUnit text milliseconds
+  is_second : text ≡ codes "s" → milliseconds ≡ 1000 → IsUnit text milliseconds
+  is_minute : text ≡ codes "m" → milliseconds ≡ 60000 → IsUnit text milliseconds
+
+-- `tick DURATION`: 1 to 9 digits and a unit, at most a day in all
+pub record IsTickLine (line : List ℕ) (milliseconds : ℕ) : Type 0 where
+  pub digits : List ℕ
+  pub unit_text : List ℕ
+  pub words : words_of line ≡ codes "tick" ∷ (digits ++ unit_text) ∷ []
+  pub count : ℕ
+  pub number : IsNumber digits count
+  pub few_digits : length digits ≤ 9
+  pub unit : ℕ
+  pub is_unit : IsUnit unit_text unit
+  pub value : count * unit ≡ milliseconds
+  pub to_a_day : milliseconds ≤ 86400000
+
+-- a line that asks for an action
 abbrev pub IsActionLine : List ℕ → Action → Type 0
-IsActionLine line (actions.Play (Planned name a) n) = IsPlannedLine line name a × (n ≡ 1)
-IsActionLine line (actions.Play Write n) = IsWriteLine line n
+IsActionLine line (actions.Play command n) = IsCommand (words_of line) command n
+IsActionLine line (actions.Start name command) = IsStartLine line name command
+IsActionLine line (actions.Turn name pumps) = IsTurnLine line name pumps
+IsActionLine line (actions.Finish name) = IsFinishLine line name
+IsActionLine line actions.Lapse = IsLapseLine line
+IsActionLine line (actions.Tick milliseconds) = IsTickLine line milliseconds
 
 -- what a line says
 abbrev pub Says : List ℕ → Line → Type 0
 Says line (Shard name) = IsShardLine line name
 Says line (Tablet t) = IsTabletLine line t
-Says line (Play command n) = IsActionLine line (actions.Play command n)
+Says line (Act action) = IsActionLine line action
 
 -- ---- a whole script
 
@@ -80,9 +139,17 @@ AliasesDiffer [] = ⊤
 AliasesDiffer (t ∷ ts) = All (λ u. t.alias ≢ u.alias) ts × AliasesDiffer ts
 
 -- a reparent is of this shard
+abbrev pub IsCommandOf : ShardName → Command → Type 0
+IsCommandOf name (Planned n a) = n ≡ name
+IsCommandOf name Write = ⊤
+
 abbrev pub IsOfShard : ShardName → Action → Type 0
-IsOfShard name (actions.Play (Planned n a) k) = n ≡ name
-IsOfShard name (actions.Play Write k) = ⊤
+IsOfShard name (actions.Play command n) = IsCommandOf name command
+IsOfShard name (actions.Start starter command) = IsCommandOf name command
+IsOfShard name (actions.Turn starter pumps) = ⊤
+IsOfShard name (actions.Finish starter) = ⊤
+IsOfShard name actions.Lapse = ⊤
+IsOfShard name (actions.Tick milliseconds) = ⊤
 
 -- the lines of a script: first the shard, then its tablets, then what is done to it
 pub record IsShardScript (lines : List (List ℕ)) (s : Script) : Type 0 where
@@ -105,6 +172,11 @@ pub record IsShardScript (lines : List (List ℕ)) (s : Script) : Type 0 where
   pub aliases_differ : AliasesDiffer declared
   pub servers_differ : ServersDiffer declared
   pub of_shard : All (IsOfShard name) s.actions
+  -- the names that are started, in order: at most 16 that all differ, and `turn` and `finish` behind the start of their name
+  pub names : s.names ≡ started s.actions
+  pub few_names : length s.names ≤ 16
+  pub names_differ : NamesDiffer s.names
+  pub known : AreKnown [] s.actions
 
 -- lines that make a script: none at all, or those of a shard
 pub data IsScript (lines : List (List ℕ)) (s : Script) : Type 0 where

@@ -1,3 +1,5 @@
+pub mod Numbers
+pub mod Names
 pub mod Lines
 pub mod Script
 pub mod Grammar

@@ -1,19 +1,21 @@
 -- The lines of a script, one by one: words parted by single spaces, with the names and UUIDs of the Vitess manual's commands.
-use Rattle.std.specs.Prelude.{ℕ, ◌+◌, ◌-◌, ◌*◌, ◌^◌, List, [], ◌&&◌, ◌==◌, nat_le, nat_lt, Option, Some, None, if◌then◌else◌, length, slice_index_or, codes}
-use Rattle.std.specs.Char.{is_ascii_digit}
-use Rattle.std.specs.List.{slice_split, list_all}
+use Rattle.std.specs.Prelude.{ℕ, List, [], ◌==◌, Option, Some, None, if◌then◌else◌, length, slice_index_or, codes}
+use Rattle.std.specs.List.{slice_split}
 use Rattle.std.specs.Result.{result_ok}
 use Rattle.std.specs.Str.{bytes_eq}
-use Rattle.std.specs.Str.Parse.{digits_value}
 use Rattle.uuid.specs.Text.{parsed}
-use Rattle.shard_base.specs.Options.{◌>>=◌, only_if}
+use Rattle.shard_base.specs.Options.{◌>>=◌}
 use Rattle.shard_names.specs.Alias.{alias_reading}
 use Rattle.shard_names.specs.ShardName.{shard_name_reading}
 use Rattle.shard_names.specs.declared.tablet.TabletType.{TabletType}
 use Rattle.shard_names.specs.declared.tablet.TabletType.TheVariants.{Replica, Spare}
+use Rattle.shard_core.specs.declared.command.Command.{Command}
 use Rattle.shard_core.specs.declared.command.Command.TheVariants.{Planned, Write}
 use Rattle.shard_script.specs.declared.line.Line.{Line}
-use Rattle.shard_script.specs.declared.line.Line.TheVariants.{Shard, Tablet, Play}
+use Rattle.shard_script.specs.declared.line.Line.TheVariants.{Shard, Tablet, Act}
+use Rattle.shard_script.specs.declared.script.Action.TheVariants.{Play, Start, Turn, Finish, Lapse, Tick}
+use Rattle.shard_script.specs.Numbers.{number_within, duration_reading}
+use Rattle.shard_script.specs.Names.{name_reading}
 
 -- the parts between separators
 abbrev pub parts_of : ℕ → List ℕ → List (List ℕ)
@@ -22,21 +24,6 @@ parts_of separator bytes = slice_split (λ b. b == separator) bytes
 -- the words of a line, which are parted by spaces
 abbrev pub words_of : List ℕ → List (List ℕ)
 words_of bytes = parts_of 32 bytes
-
--- one or more decimal digits with a value of 64 bits
-unfoldable pub number_reading : List ℕ → Option ℕ
-number_reading text =
-    only_if (nat_le 1 (length text) && list_all is_ascii_digit text && nat_lt (digits_value 10 text) (2 ^ 64)) (digits_value 10 text)
-
--- a number with one more digit behind it, if that has 64 bits
-abbrev pub with_digit : ℕ → ℕ → Option ℕ
-with_digit n byte = only_if (is_ascii_digit byte && nat_lt (n * 10 + (byte - 48)) (2 ^ 64)) (n * 10 + (byte - 48))
-
--- a number from 1 to 100
-unfoldable pub count_reading : List ℕ → Option ℕ
-count_reading text = do
-  n ← number_reading text
-  only_if (nat_le 1 n && nat_le n 100) n
 
 -- a UUID in the hyphenated form, in either case
 unfoldable pub server_reading : List ℕ → Option (List ℕ)
@@ -61,38 +48,91 @@ tablet_line alias kind server = do
   s ← server_reading server
   Some (Tablet (record { alias = a; server = s; kind = k }))
 
--- `PlannedReparentShard K/S --new-primary ALIAS`
-unfoldable pub planned_line : List ℕ → List ℕ → List ℕ → Option Line
-planned_line name option alias = if bytes_eq option (codes "--new-primary")
+-- the words of `PlannedReparentShard K/S --new-primary ALIAS` behind the first
+unfoldable pub planned_command : List ℕ → List ℕ → List ℕ → Option Command
+planned_command name option alias = if bytes_eq option (codes "--new-primary")
     then (do
       n ← shard_name_reading name
       a ← result_ok (alias_reading alias)
-      Some (Play (Planned n a) 1)) else None
+      Some (Planned n a)) else None
+
+-- `PlannedReparentShard K/S --new-primary ALIAS`
+unfoldable pub planned_line : List ℕ → List ℕ → List ℕ → Option Line
+planned_line name option alias = planned_command name option alias >>= (λ c. Some (Act (Play c 1)))
 
 -- `write N`
 unfoldable pub write_line : List ℕ → Option Line
-write_line count = count_reading count >>= (λ n. Some (Play Write n))
+write_line count = number_within 1 100 count >>= (λ n. Some (Act (Play Write n)))
+
+-- `start NAME write 1`
+unfoldable pub start_write_line : List ℕ → List ℕ → List ℕ → Option Line
+start_write_line name head count = if bytes_eq head (codes "write")
+    then (do
+      n ← name_reading name
+      k ← number_within 1 1 count
+      Some (Act (Start n Write))) else None
+
+-- `start NAME PlannedReparentShard K/S --new-primary ALIAS`
+unfoldable pub start_planned_line : List ℕ → List ℕ → List ℕ → List ℕ → List ℕ → Option Line
+start_planned_line name head shard option alias = if bytes_eq head (codes "PlannedReparentShard")
+    then (do
+      n ← name_reading name
+      c ← planned_command shard option alias
+      Some (Act (Start n c))) else None
+
+-- `turn NAME K`
+unfoldable pub turn_line : List ℕ → List ℕ → Option Line
+turn_line name pumps = do
+  n ← name_reading name
+  k ← number_within 1 1000000 pumps
+  Some (Act (Turn n k))
+
+-- `finish NAME`
+unfoldable pub finish_line : List ℕ → Option Line
+finish_line name = name_reading name >>= (λ n. Some (Act (Finish n)))
+
+-- `tick DURATION`
+unfoldable pub tick_line : List ℕ → Option Line
+tick_line duration = duration_reading duration >>= (λ n. Some (Act (Tick n)))
+
+-- ---- by the number of words
 
 abbrev pub word : List (List ℕ) → ℕ → List ℕ
 word words k = slice_index_or words k []
 
+abbrev pub one_word : List ℕ → Option Line
+one_word head = if bytes_eq head (codes "lapse") then Some (Act Lapse) else None
+
 abbrev pub two_words : List ℕ → List ℕ → Option Line
-two_words head count = if bytes_eq head (codes "write") then write_line count else None
+two_words head a =
+    if bytes_eq head (codes "write") then write_line a
+    else if bytes_eq head (codes "finish") then finish_line a
+    else if bytes_eq head (codes "tick") then tick_line a
+    else None
 
 abbrev pub three_words : List ℕ → List ℕ → List ℕ → Option Line
-three_words head name policy = if bytes_eq head (codes "shard") then shard_line name policy else None
+three_words head a b =
+    if bytes_eq head (codes "shard") then shard_line a b
+    else if bytes_eq head (codes "turn") then turn_line a b
+    else None
 
 abbrev pub four_words : List ℕ → List ℕ → List ℕ → List ℕ → Option Line
 four_words head a b c =
     if bytes_eq head (codes "tablet") then tablet_line a b c
     else if bytes_eq head (codes "PlannedReparentShard") then planned_line a b c
+    else if bytes_eq head (codes "start") then start_write_line a b c
     else None
+
+abbrev pub six_words : List ℕ → List ℕ → List ℕ → List ℕ → List ℕ → List ℕ → Option Line
+six_words head a b c d e = if bytes_eq head (codes "start") then start_planned_line a b c d e else None
 
 unfoldable pub line_of_words : List (List ℕ) → Option Line
 line_of_words words =
-    if length words == 2 then two_words (word words 0) (word words 1)
+    if length words == 1 then one_word (word words 0)
+    else if length words == 2 then two_words (word words 0) (word words 1)
     else if length words == 3 then three_words (word words 0) (word words 1) (word words 2)
     else if length words == 4 then four_words (word words 0) (word words 1) (word words 2) (word words 3)
+    else if length words == 6 then six_words (word words 0) (word words 1) (word words 2) (word words 3) (word words 4) (word words 5)
     else None
 
 -- the line that bytes spell

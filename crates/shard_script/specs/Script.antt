@@ -1,5 +1,5 @@
 -- A script, and the fold over its lines that reads it. Its commands are those of vtctldclient (Vitess manual).
-use Rattle.std.specs.Prelude.{◌≡◌, ℕ, ◌+◌, ◌-◌, ◌≤◌, List, [], ◌∷◌, ◌++◌, Bool, false, ◌&&◌, not, ◌==◌, nat_lt, nat_le, Option, Some, None, is_some, is_none, Result, Ok, Err, if◌then◌else◌, length, take, slice_index_or, position, unwrap_or, All, ⊤}
+use Rattle.std.specs.Prelude.{◌≡◌, ℕ, ◌+◌, ◌-◌, ◌≤◌, List, [], ◌∷◌, ◌++◌, Bool, true, false, ◌&&◌, not, ◌==◌, nat_lt, nat_le, Option, Some, None, is_some, is_none, Result, Ok, Err, if◌then◌else◌, length, take, slice_index_or, position, unwrap_or, All, ⊤}
 use Rattle.std.specs.List.{list_any}
 use Rattle.std.specs.Str.{bytes_eq}
 use Rattle.std.specs.Ordering.{is_lt}
@@ -10,12 +10,13 @@ use Rattle.shard_names.specs.declared.tablet.Tablet.{Tablet as TabletData}
 use Rattle.shard_core.specs.declared.command.Command.{Command}
 use Rattle.shard_core.specs.declared.command.Command.TheVariants.{Planned, Write}
 use Rattle.shard_script.specs.declared.line.Line.{Line}
-use Rattle.shard_script.specs.declared.line.Line.TheVariants.{Shard, Tablet, Play}
+use Rattle.shard_script.specs.declared.line.Line.TheVariants.{Shard, Tablet, Act}
 use Rattle.shard_script.specs.declared.script.Action.{Action}
 use Rattle.shard_script.specs.declared.script.Action.TheVariants as actions
 use Rattle.shard_script.specs.declared.script.Script.{Script}
 use Rattle.shard_script.specs.declared.script.ScriptFault.{ScriptFault}
 use Rattle.shard_script.specs.declared.script.ScriptFault.TheVariants as faults
+use Rattle.shard_script.specs.Names.{IsName, has_name, started_by, started, NamesDiffer, AreKnown}
 use Rattle.shard_script.specs.Lines.{parts_of, line_of}
 
 -- whether a tablet has this alias
@@ -52,24 +53,37 @@ abbrev pub admits_tablet : Script → TabletData → Bool
 admits_tablet s t =
     is_some s.shard && (length s.actions == 0) && nat_lt (length s.tablets) 32 && not (has_alias s.tablets t.alias) && not (has_server s.tablets t.server)
 
--- a reparent is of the declared shard, and a write stands behind the shard
+-- a reparent is of the declared shard
 abbrev pub admits_command : Script → Command → Bool
 admits_command s (Planned name a) = is_shard s.shard name
-admits_command s Write = is_some s.shard
+admits_command s Write = true
+
+-- a name is started once, as one of at most 16
+abbrev pub admits_name : Script → List ℕ → Bool
+admits_name s name = nat_lt (length s.names) 16 && not (has_name s.names name)
+
+-- whether an action may stand behind the shard and the actions so far
+abbrev pub admits_action : Script → Action → Bool
+admits_action s (actions.Play command n) = admits_command s command
+admits_action s (actions.Start name command) = admits_command s command && admits_name s name
+admits_action s (actions.Turn name pumps) = has_name s.names name
+admits_action s (actions.Finish name) = has_name s.names name
+admits_action s actions.Lapse = true
+admits_action s (actions.Tick milliseconds) = true
 
 -- whether a line may stand behind the script so far
 abbrev pub admits : Script → Line → Bool
 admits s (Shard name) = is_none s.shard
 admits s (Tablet t) = admits_tablet s t
-admits s (Play command n) = admits_command s command
+admits s (Act action) = is_some s.shard && admits_action s action
 
 abbrev pub with_line : Script → Line → Script
 with_line s (Shard name) = record s { shard = Some name }
 with_line s (Tablet t) = record s { tablets = in_place t s.tablets }
-with_line s (Play command n) = record s { actions = s.actions ++ actions.Play command n ∷ [] }
+with_line s (Act action) = record s { names = s.names ++ started_by action; actions = s.actions ++ action ∷ [] }
 
 abbrev pub empty_script : Script
-empty_script = record { shard = None; tablets = []; actions = [] }
+empty_script = record { shard = None; tablets = []; names = []; actions = [] }
 
 -- the script with one more line, if it may stand there
 unfoldable pub with_bytes : Script → List ℕ → Option Script
@@ -127,10 +141,16 @@ Gives (Ok s) r = r ≡ Ok s
 Gives (Err (faults.Line place)) r = r ≡ Err place
 Gives (Err faults.OutOfMemory) r = ⊤
 
--- A write is given 1 to 100 times, and a reparent of the declared shard once.
+-- A reparent is of the declared shard. It is given once, and a write 1 to 100 times. A turn is of 1 to 1,000,000 events, and at most a day goes by.
 abbrev pub FitsShard : Option ShardName → Action → Type 0
 FitsShard shard (actions.Play (Planned name a) n) = (shard ≡ Some name) × (n ≡ 1)
 FitsShard shard (actions.Play Write n) = (1 ≤ n) × (n ≤ 100)
+FitsShard shard (actions.Start starter (Planned name a)) = shard ≡ Some name
+FitsShard shard (actions.Start starter Write) = ⊤
+FitsShard shard (actions.Turn name pumps) = (1 ≤ pumps) × (pumps ≤ 1000000)
+FitsShard shard (actions.Finish name) = ⊤
+FitsShard shard actions.Lapse = ⊤
+FitsShard shard (actions.Tick milliseconds) = milliseconds ≤ 86400000
 
 -- what every script that is read keeps to
 pub record Fits (s : Script) : Type 0 where
@@ -139,3 +159,10 @@ pub record Fits (s : Script) : Type 0 where
   pub named : s.shard ≡ None → (s.tablets ≡ []) × (s.actions ≡ [])
   pub actions : All (FitsShard s.shard) s.actions
   pub few_actions : length s.actions ≤ 1000
+  -- the names are those that the actions start, at most 16 that differ
+  pub starts : s.names ≡ started s.actions
+  pub are_names : All IsName s.names
+  pub few_names : length s.names ≤ 16
+  pub names_differ : NamesDiffer s.names
+  -- each that is turned or finished was started before
+  pub known : AreKnown [] s.actions

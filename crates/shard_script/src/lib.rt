@@ -3,8 +3,12 @@
 
 mod law;
 mod line;
+mod number;
 mod script;
+#[cfg(test)]
+mod tests;
 
 pub use law::{faults_as_spelled, front_decides, reads_as_spelled};
-pub use line::{Line, read_number};
+pub use line::Line;
+pub use number::read_number;
 pub use script::{Action, Script, ScriptFault, read_text};

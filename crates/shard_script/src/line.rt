@@ -1,9 +1,13 @@
 ghost use Rattle.std.specs.Prelude.{◌≡◌, ◌==◌, map, length, IfOk};
-ghost use Rattle.shard_script.specs.Lines.{parts_of, with_digit, number_reading, count_reading, server_reading, kind_reading, shard_line, tablet_line, planned_line, write_line, two_words, three_words, four_words, line_of_words, line_of};
+ghost use Rattle.std.specs.List.{list_all};
+ghost use Rattle.shard_script.specs.Names.{is_name_byte, is_taken, name_reading};
+ghost use Rattle.shard_script.specs.Lines.{parts_of, server_reading, kind_reading, shard_line, tablet_line, planned_command, planned_line, write_line, start_write_line, start_planned_line, turn_line, finish_line, tick_line, one_word, two_words, three_words, four_words, six_words, line_of_words, line_of};
 
-use shard_base::OutOfMemory;
+use crate::number::{read_duration, read_within};
+use crate::script::Action;
+use shard_base::{OutOfMemory, Text};
 use shard_core::Command;
-use shard_names::{Alias, ShardName, Tablet, TabletType};
+use shard_names::{Alias, Name, ShardName, Tablet, TabletType};
 use std::alloc::{AllocError, Global};
 use uuid::Uuid;
 
@@ -14,44 +18,39 @@ pub enum Line {
     Shard { name: ShardName },
     /// One of its tablets.
     Tablet { tablet: Tablet },
-    /// A command, and how often it is given.
-    Play { command: Command, count: u64 },
+    /// What is done to it.
+    Act { action: Action },
 }
 
-/// The number with one more digit, if it has 64 bits.
-fn push_digit(value: u64, byte: u8) -> Option<u64>
-    ensures { result ≡ with_digit value byte }
+#[tactic(auto, unfolding(crate::specs::Names::is_name_byte))]
+fn is_name_byte(byte: u8) -> bool
+    ensures { result ≡ is_name_byte byte }
 {
-    if !byte.is_ascii_digit() {
-        return None;
-    }
-    value.checked_mul(10)?.checked_add((byte - b'0') as u64)
+    matches!(byte, b'0'..=b'9' | b'A'..=b'Z' | b'a'..=b'z' | b'_' | b'.' | b'-')
 }
 
-/// The number that decimal digits stand for, if there is a digit and the number has 64 bits. Leading zeros are read.
-pub fn read_number(text: &[u8]) -> Option<u64>
-    ensures { result ≡ number_reading text.now }
+fn all_name_bytes(text: &[u8]) -> bool
+    ensures { result ≡ list_all is_name_byte text.now }
 {
-    if text.is_empty() {
-        return None;
-    }
-    let mut value = 0;
-    for byte in text {
-        value = push_digit(value, *byte)?;
-    }
-    Some(value)
+    text.iter().all(|byte| is_name_byte(*byte))
 }
 
-/// A number of writes: 1 to 100.
-#[tactic(auto, unfolding(crate::specs::Lines::count_reading))]
-fn read_count(text: &[u8]) -> Option<u64>
-    ensures { result ≡ count_reading text.now }
+/// Whether a name is one of the two that no line starts.
+fn is_taken(name: &[u8]) -> bool
+    ensures { result ≡ is_taken name.now }
 {
-    let count = read_number(text)?;
-    if count < 1 || count > 100 {
+    name == b"main".as_slice() || name == b"control".as_slice()
+}
+
+/// A name that may be started: 1 to 16 bytes as those of a cell.
+#[tactic(auto, unfolding(crate::specs::Names::name_reading))]
+fn read_name(text: &[u8]) -> Option<Name>
+    ensures { result ≡ name_reading text.now }
+{
+    if text.is_empty() || !all_name_bytes(text) || is_taken(text) {
         return None;
     }
-    Some(count)
+    Text::from_slice(text)
 }
 
 /// The hyphenated form in either case.
@@ -103,18 +102,25 @@ fn tablet_line(alias: &[u8], kind: &[u8], server: &[u8]) -> Option<Line>
     })
 }
 
-#[tactic(auto, unfolding(crate::specs::Lines::planned_line))]
-fn planned_line(name: &[u8], option: &[u8], alias: &[u8]) -> Option<Line>
-    ensures { result ≡ planned_line name.now option.now alias.now }
+#[tactic(auto, unfolding(crate::specs::Lines::planned_command))]
+fn planned_command(name: &[u8], option: &[u8], alias: &[u8]) -> Option<Command>
+    ensures { result ≡ planned_command name.now option.now alias.now }
 {
     if option != b"--new-primary".as_slice() {
         return None;
     }
     let shard = ShardName::read(name)?;
     let new_primary = Alias::read(alias).ok()?;
-    Some(Line::Play {
-        command: Command::Planned { shard, new_primary },
-        count: 1,
+    Some(Command::Planned { shard, new_primary })
+}
+
+#[tactic(auto, unfolding(crate::specs::Lines::planned_line))]
+fn planned_line(name: &[u8], option: &[u8], alias: &[u8]) -> Option<Line>
+    ensures { result ≡ planned_line name.now option.now alias.now }
+{
+    let command = planned_command(name, option, alias)?;
+    Some(Line::Act {
+        action: Action::Play { command, count: 1 },
     })
 }
 
@@ -122,28 +128,116 @@ fn planned_line(name: &[u8], option: &[u8], alias: &[u8]) -> Option<Line>
 fn write_line(count: &[u8]) -> Option<Line>
     ensures { result ≡ write_line count.now }
 {
-    let count = read_count(count)?;
-    Some(Line::Play {
-        command: Command::Write,
-        count,
+    let count = read_within(count, 1, 100)?;
+    Some(Line::Act {
+        action: Action::Play {
+            command: Command::Write,
+            count,
+        },
     })
 }
 
-fn two_words(head: &[u8], count: &[u8]) -> Option<Line>
-    ensures { result ≡ two_words head.now count.now }
+#[tactic(auto, unfolding(crate::specs::Lines::start_write_line))]
+fn start_write_line(name: &[u8], head: &[u8], count: &[u8]) -> Option<Line>
+    ensures { result ≡ start_write_line name.now head.now count.now }
 {
-    if head == b"write".as_slice() {
-        write_line(count)
+    if head != b"write".as_slice() {
+        return None;
+    }
+    let name = read_name(name)?;
+    let _once = read_within(count, 1, 1)?;
+    Some(Line::Act {
+        action: Action::Start {
+            name,
+            command: Command::Write,
+        },
+    })
+}
+
+#[tactic(auto, unfolding(crate::specs::Lines::start_planned_line))]
+fn start_planned_line(
+    name: &[u8],
+    head: &[u8],
+    shard: &[u8],
+    option: &[u8],
+    alias: &[u8],
+) -> Option<Line>
+    ensures { result ≡ start_planned_line name.now head.now shard.now option.now alias.now }
+{
+    if head != b"PlannedReparentShard".as_slice() {
+        return None;
+    }
+    let name = read_name(name)?;
+    let command = planned_command(shard, option, alias)?;
+    Some(Line::Act {
+        action: Action::Start { name, command },
+    })
+}
+
+#[tactic(auto, unfolding(crate::specs::Lines::turn_line))]
+fn turn_line(name: &[u8], pumps: &[u8]) -> Option<Line>
+    ensures { result ≡ turn_line name.now pumps.now }
+{
+    let name = read_name(name)?;
+    let pumps = read_within(pumps, 1, 1000000)?;
+    Some(Line::Act {
+        action: Action::Turn { name, pumps },
+    })
+}
+
+#[tactic(auto, unfolding(crate::specs::Lines::finish_line))]
+fn finish_line(name: &[u8]) -> Option<Line>
+    ensures { result ≡ finish_line name.now }
+{
+    let name = read_name(name)?;
+    Some(Line::Act {
+        action: Action::Finish { name },
+    })
+}
+
+#[tactic(auto, unfolding(crate::specs::Lines::tick_line))]
+fn tick_line(duration: &[u8]) -> Option<Line>
+    ensures { result ≡ tick_line duration.now }
+{
+    let milliseconds = read_duration(duration)?;
+    Some(Line::Act {
+        action: Action::Tick { milliseconds },
+    })
+}
+
+fn one_word(head: &[u8]) -> Option<Line>
+    ensures { result ≡ one_word head.now }
+{
+    if head == b"lapse".as_slice() {
+        Some(Line::Act {
+            action: Action::Lapse,
+        })
     } else {
         None
     }
 }
 
-fn three_words(head: &[u8], name: &[u8], policy: &[u8]) -> Option<Line>
-    ensures { result ≡ three_words head.now name.now policy.now }
+fn two_words(head: &[u8], a: &[u8]) -> Option<Line>
+    ensures { result ≡ two_words head.now a.now }
+{
+    if head == b"write".as_slice() {
+        write_line(a)
+    } else if head == b"finish".as_slice() {
+        finish_line(a)
+    } else if head == b"tick".as_slice() {
+        tick_line(a)
+    } else {
+        None
+    }
+}
+
+fn three_words(head: &[u8], a: &[u8], b: &[u8]) -> Option<Line>
+    ensures { result ≡ three_words head.now a.now b.now }
 {
     if head == b"shard".as_slice() {
-        shard_line(name, policy)
+        shard_line(a, b)
+    } else if head == b"turn".as_slice() {
+        turn_line(a, b)
     } else {
         None
     }
@@ -156,6 +250,18 @@ fn four_words(head: &[u8], a: &[u8], b: &[u8], c: &[u8]) -> Option<Line>
         tablet_line(a, b, c)
     } else if head == b"PlannedReparentShard".as_slice() {
         planned_line(a, b, c)
+    } else if head == b"start".as_slice() {
+        start_write_line(a, b, c)
+    } else {
+        None
+    }
+}
+
+fn six_words(head: &[u8], a: &[u8], b: &[u8], c: &[u8], d: &[u8], e: &[u8]) -> Option<Line>
+    ensures { result ≡ six_words head.now a.now b.now c.now d.now e.now }
+{
+    if head == b"start".as_slice() {
+        start_planned_line(a, b, c, d, e)
     } else {
         None
     }
@@ -165,12 +271,16 @@ fn four_words(head: &[u8], a: &[u8], b: &[u8], c: &[u8]) -> Option<Line>
 fn line_of_words(words: &[&[u8]]) -> Option<Line>
     ensures { result ≡ line_of_words (map (λ w. w.now) words.now) }
 {
-    if words.len() == 2 {
+    if words.len() == 1 {
+        one_word(words[0])
+    } else if words.len() == 2 {
         two_words(words[0], words[1])
     } else if words.len() == 3 {
         three_words(words[0], words[1], words[2])
     } else if words.len() == 4 {
         four_words(words[0], words[1], words[2], words[3])
+    } else if words.len() == 6 {
+        six_words(words[0], words[1], words[2], words[3], words[4], words[5])
     } else {
         None
     }

@@ -1,20 +1,31 @@
-ghost use Rattle.std.specs.Prelude.{◌≡◌, ◌≤◌, ◌<◌, ◌==◌, map, position, length, IfOk, IfSome, OnOk, Some, None, if◌then◌else◌};
+ghost use Rattle.std.specs.Prelude.{◌≡◌, ◌≤◌, ◌<◌, ◌==◌, [], ◌∷◌, ◌++◌, map, position, length, IfOk, IfSome, OnOk, Some, None, if◌then◌else◌};
 ghost use Rattle.std.specs.Str.{bytes_eq};
 ghost use Rattle.shard_names.specs.Tablets.{alias_eq};
-ghost use Rattle.shard_script.specs.Script.{first_bytes, place_among, has_alias, has_server, shard_eq, is_shard, is_below, in_place, admits_tablet, admits_command, admits, with_line, with_bytes, lines_of, ended_lines, read_on, read_lines, reading, Gives, Fits};
+ghost use Rattle.shard_script.specs.Names.{has_name, started_by};
+ghost use Rattle.shard_script.specs.Script.{first_bytes, place_among, has_alias, has_server, shard_eq, is_shard, is_below, in_place, admits_tablet, admits_command, admits_name, admits_action, admits, with_line, with_bytes, lines_of, ended_lines, read_on, read_lines, reading, Gives, Fits};
 
 use crate::line::{Line, parts_of, read_line};
 use shard_base::{Items, OutOfMemory};
 use shard_core::Command;
-use shard_names::{Alias, ShardName, Tablet};
+use shard_names::{Alias, Name, ShardName, Tablet};
 use std::alloc::Global;
 use uuid::Uuid;
 
 /// What a script asks for.
 #[derive(Clone, Copy)]
 pub enum Action {
-    /// The command, so many times.
+    /// `main` gives the command, so many times, each after the one before has ended.
     Play { command: Command, count: u64 },
+    /// The actor of this name begins the command.
+    Start { name: Name, command: Command },
+    /// The command that the name started goes on, by at most so many events.
+    Turn { name: Name, pumps: u64 },
+    /// It goes on until it has ended.
+    Finish { name: Name },
+    /// The shard's lock is freed, whoever holds it.
+    Lapse,
+    /// So many milliseconds go by.
+    Tick { milliseconds: u64 },
 }
 
 /// A shard, its tablets in alias order, and what is done to it.
@@ -22,6 +33,8 @@ pub enum Action {
 pub struct Script {
     pub shard: Option<ShardName>,
     pub tablets: Items<Tablet>,
+    /// The names that it starts, in order.
+    pub names: Items<Name>,
     pub actions: Items<Action>,
 }
 
@@ -80,6 +93,18 @@ fn has_server(tablets: &[Tablet], server: &Uuid) -> bool
     tablets.iter().any(|t| same_server(&t.server, server))
 }
 
+fn same_name(a: &Name, b: &Name) -> bool
+    ensures { result ≡ bytes_eq a.now b.now }
+{
+    a == b
+}
+
+fn has_name(names: &[Name], name: &Name) -> bool
+    ensures { result ≡ has_name names.now name.now }
+{
+    names.iter().any(|n| same_name(name, n))
+}
+
 fn is_shard(shard: &Option<ShardName>, name: &ShardName) -> bool
     ensures { result ≡ is_shard shard.now name.now }
 {
@@ -91,6 +116,9 @@ fn is_shard(shard: &Option<ShardName>, name: &ShardName) -> bool
 
 /// The most tablets of a script.
 const MOST_TABLETS: usize = 32;
+
+/// The most names that a script starts.
+const MOST_NAMES: usize = 16;
 
 /// The most lines of a script.
 const MOST_LINES: usize = 1000;
@@ -113,7 +141,29 @@ fn admits_command(script: &Script, command: &Command) -> bool
 {
     match command {
         Command::Planned { shard, .. } => is_shard(&script.shard, shard),
-        Command::Write => script.shard.is_some(),
+        Command::Write => true,
+    }
+}
+
+fn admits_name(script: &Script, name: &Name) -> bool
+    ensures { result ≡ admits_name script.now name.now }
+{
+    script.names.len() < MOST_NAMES && !has_name(script.names.as_slice(), name)
+}
+
+/// Whether an action may stand behind the shard and the actions so far.
+fn admits_action(script: &Script, action: &Action) -> bool
+    ensures { result ≡ admits_action script.now action.now }
+{
+    match action {
+        Action::Play { command, .. } => admits_command(script, command),
+        Action::Start { name, command } => {
+            admits_command(script, command) && admits_name(script, name)
+        }
+        Action::Turn { name, .. } => has_name(script.names.as_slice(), name),
+        Action::Finish { name } => has_name(script.names.as_slice(), name),
+        Action::Lapse => true,
+        Action::Tick { .. } => true,
     }
 }
 
@@ -124,7 +174,7 @@ fn admits(script: &Script, line: &Line) -> bool
     match line {
         Line::Shard { .. } => script.shard.is_none(),
         Line::Tablet { tablet } => admits_tablet(script, tablet),
-        Line::Play { command, .. } => admits_command(script, command),
+        Line::Act { action } => script.shard.is_some() && admits_action(script, action),
     }
 }
 
@@ -157,6 +207,27 @@ fn insert_tablet(tablets: Items<Tablet>, tablet: Tablet) -> Result<Items<Tablet>
     Ok(Items::from_vec(list))
 }
 
+/// The names with the one that the action starts.
+fn with_started(names: Items<Name>, action: &Action) -> Result<Items<Name>, OutOfMemory>
+    ensures { IfOk result (λ new. new ≡ names ++ started_by action.now) }
+{
+    let mut names = names;
+    if let Action::Start { name, .. } = action {
+        names.push(*name)?;
+    }
+    Ok(names)
+}
+
+/// The actions with one more.
+fn with_action(actions: Items<Action>, action: Action) -> Result<Items<Action>, OutOfMemory>
+    ensures { IfOk result (λ new. new ≡ actions ++ action ∷ []) }
+{
+    let _command: Option<&Command> = None;
+    let mut actions = actions;
+    actions.push(action)?;
+    Ok(actions)
+}
+
 /// The script with one more line.
 fn with_line(script: Script, line: Line) -> Result<Script, OutOfMemory>
     ensures { IfOk result (λ new. new ≡ with_line script line) }
@@ -164,16 +235,21 @@ fn with_line(script: Script, line: Line) -> Result<Script, OutOfMemory>
     let Script {
         mut shard,
         mut tablets,
+        mut names,
         mut actions,
     } = script;
     match line {
         Line::Shard { name } => shard = Some(name),
         Line::Tablet { tablet } => tablets = insert_tablet(tablets, tablet)?,
-        Line::Play { command, count } => actions.push(Action::Play { command, count })?,
+        Line::Act { action } => {
+            names = with_started(names, &action)?;
+            actions = with_action(actions, action)?;
+        }
     }
     Ok(Script {
         shard,
         tablets,
+        names,
         actions,
     })
 }
@@ -216,6 +292,7 @@ fn read_lines(alloc: Global, lines: &[&[u8]]) -> Result<Script, ScriptFault>
     let mut script = Script {
         shard: None,
         tablets: Items::new(alloc),
+        names: Items::new(alloc),
         actions: Items::new(alloc),
     };
     for (index, bytes) in lines.iter().enumerate() {

@@ -1,9 +1,10 @@
 pub mod StreamLemmas
-pub mod GoLemmas
-pub mod MetLemmas
-pub mod StageLemmas
-pub mod RunLemmas
-pub mod CourseLemmas
-pub mod ReadyLemmas
-pub mod PlayLemmas
+pub mod LongerLemmas
+pub mod EndedLemmas
+pub mod FairLemmas
+pub mod PlayingLemmas
+pub mod TurnLemmas
+pub mod TextLemmas
+pub mod RestLemmas
 pub mod TopLemmas
+pub mod LawLemmas

@@ -1,6 +1,7 @@
 pub mod Streams
 pub mod Played
-pub mod Goes
+pub mod Playing
 pub mod Texts
 pub mod Words
 pub mod Program
+pub mod Laws

@@ -1,5 +1,5 @@
 -- What the program answers to its words and its input.
-use Rattle.std.specs.Prelude.{◌≡◌, ◌≢◌, ℕ, List, [], Option, Some, None, Result, Ok, Err}
+use Rattle.std.specs.Prelude.{◌≡◌, ◌≢◌, ℕ, List, [], ◌++◌, Option, Some, None, Result, Ok, Err}
 use Rattle.std.specs.Io.KnownBytes.{Appends}
 use Rattle.shard_base.specs.Lists.{IsFront}
 use Rattle.shard_core.specs.World.{Config}
@@ -7,8 +7,9 @@ use Rattle.shard_core.specs.Kept.{IsSafe}
 use Rattle.shard_core.specs.declared.event.Step.{Step}
 use Rattle.shard_script.specs.declared.script.Script.{Script}
 use Rattle.shard_script.specs.Script.{reading}
-use Rattle.shard_top.specs.Played.{first_moment, config_of, played}
-use Rattle.shard_top.specs.Texts.{text_of, status_of, usage_text, fault_text}
+use Rattle.shard_top.specs.declared.player.Stop.{Stop}
+use Rattle.shard_top.specs.Played.{first_moment, config_of, Want, IsRunOf}
+use Rattle.shard_top.specs.Texts.{text_of, stop_text, status_of, usage_text, fault_text}
 use Rattle.shard_top.specs.Words.{usage_fault}
 use Rattle.shard_top.specs.Streams.{AppendsFront}
 
@@ -23,23 +24,32 @@ pub record Answer : Type 0 where
 abbrev pub no_config : Config
 no_config = record { tablets = []; moment = first_moment }
 
--- a script is played, and the text of its history is written: status 1 exactly where a command that ended was refused, else 0
-abbrev pub answer_to_script : Script → Answer
-answer_to_script s = record { status = status_of (played s); config = config_of s; history = played s; written = text_of (played s) }
+-- A script is played to a stop, with some wants of memory, and the answers are written, with the reason of the stop.
+pub record IsAnswerOf (s : Script) (a : Answer) : Type 0 where
+  pub wants : List Want
+  pub stop : Stop
+  pub run : IsRunOf s wants a.history stop
+  pub status : a.status ≡ status_of stop a.history
+  pub config : a.config ≡ config_of s
+  pub written : a.written ≡ text_of a.history ++ stop_text stop
+
+-- nothing is played, this is the status, and this is written
+abbrev pub fault_answer : ℕ → List ℕ → Answer
+fault_answer status written = record { status = status; config = no_config; history = []; written = written }
 
 -- status 3 exactly where the script has no reading
-abbrev pub answer_to_reading : Result Script ℕ → Answer
-answer_to_reading (Ok s) = answer_to_script s
-answer_to_reading (Err place) = record { status = 3; config = no_config; history = []; written = fault_text place }
+abbrev pub IsAnswerToReading : Result Script ℕ → Answer → Type 0
+IsAnswerToReading (Ok s) a = IsAnswerOf s a
+IsAnswerToReading (Err place) a = a ≡ fault_answer 3 (fault_text place)
 
 -- status 2 exactly where the words have no reading
-abbrev pub answer_by : Option (List ℕ) → List ℕ → Answer
-answer_by (Some word) text = record { status = 2; config = no_config; history = []; written = usage_text word }
-answer_by None text = answer_to_reading (reading text)
+abbrev pub IsAnswerBy : Option (List ℕ) → List ℕ → Answer → Type 0
+IsAnswerBy (Some word) text a = a ≡ fault_answer 2 (usage_text word)
+IsAnswerBy None text a = IsAnswerToReading (reading text) a
 
 -- the words are read before the input
-abbrev pub answer_to : List (List ℕ) → List ℕ → Answer
-answer_to words text = answer_by (usage_fault words) text
+abbrev pub IsAnswerTo : List (List ℕ) → List ℕ → Answer → Type 0
+IsAnswerTo words text a = IsAnswerBy (usage_fault words) text a
 
 -- A call answered so, where the sink did not fail and memory did not run out. In any case the history is a front of this one, and what was
 -- written is a front of these bytes.

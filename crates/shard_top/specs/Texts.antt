@@ -20,6 +20,8 @@ use Rattle.shard_core.specs.declared.event.Event.{Event}
 use Rattle.shard_core.specs.declared.event.Event.TheVariants as events
 use Rattle.shard_core.specs.declared.event.Step.{Step}
 use Rattle.shard_core.specs.World.{main_name, numbered}
+use Rattle.shard_top.specs.declared.player.Stop.{Stop}
+use Rattle.shard_top.specs.declared.player.Stop.TheVariants as stops
 use Rattle.shard_top.specs.declared.texts.Begun.{Begun}
 
 -- every printed line ends with a newline
@@ -59,12 +61,16 @@ not_eligible_text a bar = codes "4 NotEligible: " ++ alias_text a ++ codes " " +
 unfoldable pub not_built_text : ℕ → List ℕ
 not_built_text term = codes "21 NotBuilt: intent of term " ++ decimal term
 
+unfoldable pub out_of_memory_text : List ℕ
+out_of_memory_text = codes "20 OutOfMemory"
+
 abbrev pub refusal_text : Refusal → List ℕ
 refusal_text (refusals.LockTaken t by) = lock_taken_text t by
 refusal_text (refusals.LockLost t) = lock_lost_text t
 refusal_text (refusals.NoSuchTablet a) = no_such_tablet_text a
 refusal_text (refusals.NotEligible a bar) = not_eligible_text a bar
 refusal_text (refusals.NotBuilt t) = not_built_text t
+refusal_text refusals.OutOfMemory = out_of_memory_text
 
 unfoldable pub said_text : CommandAnswer → List ℕ
 said_text (answers.Promoted a term) = codes "promoted " ++ alias_text a ++ codes " in term " ++ decimal term
@@ -135,9 +141,27 @@ refuses (events.End c x) = is_refused x
 abbrev pub has_refusal : List Step → Bool
 has_refusal steps = list_any (λ s. refuses s.event) steps
 
--- the status of a history that was played to its end
-abbrev pub status_of : List Step → ℕ
-status_of steps = if has_refusal steps then 1 else 0
+-- ---- how a run stops
+
+-- the command of this actor has nothing to do and has not ended
+unfoldable pub blocked_text : List ℕ → List ℕ
+blocked_text name = line (codes "blocked: " ++ name)
+
+-- a further event would be more than a history has
+unfoldable pub full_text : List ℕ
+full_text = line (codes "too many events")
+
+-- what is said of it, behind the answers
+abbrev pub stop_text : Stop → List ℕ
+stop_text stops.Over = []
+stop_text (stops.Blocked name) = blocked_text name
+stop_text stops.Full = full_text
+
+-- the status of a history that was played to this stop
+abbrev pub status_of : Stop → List Step → ℕ
+status_of stops.Over steps = if has_refusal steps then 1 else 0
+status_of (stops.Blocked name) steps = 7
+status_of stops.Full steps = 8
 
 -- ---- faults
 

@@ -1,7 +1,9 @@
 //! What the program does: it reads a script, plays it, and writes the answers.
 #![tactic(auto)]
 
+mod laws;
 mod memory;
+mod player;
 mod playing;
 mod sink;
 mod source;
@@ -9,6 +11,7 @@ mod texts;
 mod top;
 mod words;
 
+pub use laws::{one_run, played_is_run, plays_to_stop};
 pub use memory::{MemorySink, MemorySource};
 pub use sink::{Sink, put_all};
 pub use source::{Failed, ReadFault, Source, read_all};

@@ -1,13 +1,15 @@
-ghost use Rattle.std.specs.Prelude.{◌≡◌, ◌++◌, ◌∷◌, [], IfOk, OnOk, Some, codes};
+ghost use Rattle.std.specs.Prelude.{◌≡◌, ◌<◌, ◌⊎◌, ◌++◌, ◌∷◌, [], IfOk, OnOk, Some, codes};
 ghost use Rattle.std.specs.Option.{option_copied};
 ghost use Rattle.std.specs.List.{flat_map};
 ghost use Rattle.std.specs.Fmt.{decimal};
 ghost use Rattle.std.specs.Str.{bytes_eq};
 ghost use Rattle.shard_names.specs.Alias.{alias_text};
 ghost use Rattle.shard_core.specs.World.{main_name, numbered};
-ghost use Rattle.shard_top.specs.Texts.{begun_by, commands_of, prefix_text, command_text, head_text, bar_text, lock_taken_text, lock_lost_text, no_such_tablet_text, not_eligible_text, not_built_text, refusal_text, said_text, answer_text, event_text, text_of, is_refused, refuses, has_refusal, usage_text, fault_text, read_fault_text};
+ghost use Rattle.shard_top.specs.Texts.{begun_by, commands_of, prefix_text, command_text, head_text, bar_text, lock_taken_text, lock_lost_text, no_such_tablet_text, not_eligible_text, not_built_text, out_of_memory_text, refusal_text, said_text, answer_text, event_text, text_of, is_refused, refuses, has_refusal, blocked_text, full_text, stop_text, status_of, usage_text, fault_text, read_fault_text};
 ghost use Rattle.shard_core.specs.declared.command.CommandAnswer.TheVariants as answers;
+ghost use Rattle.shard_top.specs.declared.player.Stop.TheVariants as stops;
 
+use crate::player::Stop;
 use gtid_sets::Gtid;
 use itoa::Buffer;
 use shard_base::OutOfMemory;
@@ -132,6 +134,14 @@ fn write_not_built(term: u64, into: &mut Vec<u8>) -> Result<(), OutOfMemory>
     write_number(term, into)
 }
 
+#[tactic(auto, unfolding(crate::specs::Texts::out_of_memory_text))]
+fn write_out_of_memory(into: &mut Vec<u8>) -> Result<(), OutOfMemory>
+    ensures { OnOk result (into.new.items ≡ into.old.items ++ out_of_memory_text) }
+{
+    into.extend_from_slice(b"20 OutOfMemory")?;
+    Ok(())
+}
+
 /// Appends the number and the text of a refusal.
 fn write_refusal(refusal: &Refusal, into: &mut Vec<u8>) -> Result<(), OutOfMemory>
     ensures { OnOk result (into.new.items ≡ into.old.items ++ refusal_text refusal.now) }
@@ -142,6 +152,7 @@ fn write_refusal(refusal: &Refusal, into: &mut Vec<u8>) -> Result<(), OutOfMemor
         Refusal::NoSuchTablet { alias } => write_no_such_tablet(alias, into),
         Refusal::NotEligible { alias, bar } => write_not_eligible(alias, bar, into),
         Refusal::NotBuilt { term } => write_not_built(*term, into),
+        Refusal::OutOfMemory => write_out_of_memory(into),
     }
 }
 
@@ -298,8 +309,8 @@ fn write_events(alloc: Global, commands: &[Begun], steps: &[Step]) -> Result<Vec
     Ok(text)
 }
 
-/// The text of a history: the answer of each command that ended, a line each.
-pub fn text_of(alloc: Global, steps: &[Step]) -> Result<Vec<u8>, OutOfMemory>
+/// The answer of each command that ended, a line each.
+fn text_of(alloc: Global, steps: &[Step]) -> Result<Vec<u8>, OutOfMemory>
     ensures { IfOk result (λ text. text.items ≡ text_of steps.now) }
 {
     let commands = commands_of(alloc, steps)?;
@@ -336,10 +347,67 @@ fn refuses(event: &Event) -> bool
 }
 
 /// Whether a command that ended was refused.
-pub fn has_refusal(steps: &[Step]) -> bool
+fn has_refusal(steps: &[Step]) -> bool
     ensures { result ≡ has_refusal steps.now }
 {
     steps.iter().any(|step| refuses(&step.event))
+}
+
+#[tactic(auto, unfolding(crate::specs::Texts::blocked_text))]
+fn write_blocked(name: &[u8], into: &mut Vec<u8>) -> Result<(), OutOfMemory>
+    ensures { OnOk result (into.new.items ≡ into.old.items ++ blocked_text name.now) }
+{
+    into.extend_from_slice(b"blocked: ")?;
+    into.extend_from_slice(name)?;
+    into.push(b'\n')?;
+    Ok(())
+}
+
+#[tactic(auto, unfolding(crate::specs::Texts::full_text))]
+fn write_full(into: &mut Vec<u8>) -> Result<(), OutOfMemory>
+    ensures { OnOk result (into.new.items ≡ into.old.items ++ full_text) }
+{
+    into.extend_from_slice(b"too many events\n")?;
+    Ok(())
+}
+
+fn write_stop(stop: &Stop, into: &mut Vec<u8>) -> Result<(), OutOfMemory>
+    ensures { OnOk result (into.new.items ≡ into.old.items ++ stop_text stop.now) }
+{
+    match stop {
+        Stop::Over => Ok(()),
+        Stop::Blocked { name } => write_blocked(name.as_slice(), into),
+        Stop::Full => write_full(into),
+    }
+}
+
+/// The text of a history, and behind it why the run stops, if it is not over.
+pub fn run_text(alloc: Global, steps: &[Step], stop: &Stop) -> Result<Vec<u8>, OutOfMemory>
+    ensures { IfOk result (λ text. text.items ≡ text_of steps.now ++ stop_text stop.now) }
+{
+    let mut text = text_of(alloc, steps)?;
+    write_stop(stop, &mut text)?;
+    Ok(text)
+}
+
+/// The status of a history that was played to its end.
+fn status_over(steps: &[Step]) -> u8
+    ensures status { result ≡ status_of stops.Over steps.now }
+    ensures small { result < 2 }
+{
+    if has_refusal(steps) { 1 } else { 0 }
+}
+
+/// The status of a history that was played to this stop.
+pub fn status_of(stop: &Stop, steps: &[Step]) -> u8
+    ensures status { result ≡ status_of stop.now steps.now }
+    ensures not_streams { (result < 2) ⊎ (6 < result) }
+{
+    match stop {
+        Stop::Over => status_over(steps),
+        Stop::Blocked { .. } => 7,
+        Stop::Full => 8,
+    }
 }
 
 /// What is said of words without a reading.

@@ -1,21 +1,22 @@
-ghost use Rattle.std.specs.Prelude.{◌≡◌, ◌≢◌, ◌≤◌, ◌<◌, [], List, ℕ, map, IsOkAnd, IsSome, MatchResult};
+ghost use Rattle.std.specs.Prelude.{◌≡◌, ◌≢◌, ◌≤◌, ◌<◌, ◌++◌, [], List, ℕ, map, IsOkAnd, IsSome, MatchResult};
 ghost use Rattle.std.specs.Io.KnownBytes.{Appends};
 ghost use Rattle.shard_base.specs.Faults.{Rose, Calm};
 ghost use Rattle.shard_core.specs.World.{Config};
 ghost use Rattle.shard_script.specs.Script.{Fits, reading};
 ghost use Rattle.shard_top.specs.Streams.{AppendsFront, WasRead};
-ghost use Rattle.shard_top.specs.Texts.{read_fault_text, text_of, status_of};
+ghost use Rattle.shard_top.specs.Texts.{read_fault_text, text_of, stop_text, status_of};
 ghost use Rattle.shard_top.specs.Words.{usage_fault};
-ghost use Rattle.shard_top.specs.Program.{answer_to, answer_to_reading, answer_to_script, Answers};
+ghost use Rattle.shard_top.specs.Program.{Answer, IsAnswerOf, IsAnswerToReading, IsAnswerTo, Answers};
 ghost use Rattle.shard_core.specs.Kept.{IsSafe};
 
+use crate::player::Stop;
 use crate::playing::{first_moment, play};
 use crate::sink::{Sink, put_all};
 use crate::source::{ReadFault, Source, read_all};
-use crate::texts::{fault_text, has_refusal, read_fault_text, text_of, usage_text};
+use crate::texts::{fault_text, read_fault_text, run_text, status_of, usage_text};
 use crate::words::usage_fault;
-use shard_base::{Items, OutOfMemory};
-use shard_core::{History, Shard, Step};
+use shard_base::OutOfMemory;
+use shard_core::{History, Shard};
 use shard_script::{Script, ScriptFault, read_text};
 use std::alloc::Global;
 
@@ -23,42 +24,36 @@ use std::alloc::Global;
 #[derive(Drop)]
 pub struct Outcome {
     /// The exit status: 0 where all went well; 1 where a command that ended was refused; 2 for words, 3 for a script without a
-    /// reading; 4 where the source failed, 5 where the sink failed; 6 for want of memory.
+    /// reading; 4 where the source failed, 5 where the sink failed; 6 for want of memory; 7 where a command that was to go on until it
+    /// ends had nothing to do; 8 where a further event would be more than a history has.
     pub status: u8,
     pub history: History,
 }
 
-/// The status of a history that was played to its end.
-fn status_of(steps: &[Step]) -> u8
-    ensures status { result ≡ status_of steps.now }
-    ensures small { result < 2 }
-{
-    if has_refusal(steps) { 1 } else { 0 }
-}
-
 fn ended(alloc: Global, status: u8) -> Outcome
     ensures status { result.status ≡ status }
-    ensures empty { result.history.steps ≡ [] }
+    ensures empty { result.history.steps.items ≡ [] }
 {
     Outcome {
         status,
         history: History {
-            steps: Items::new(alloc),
+            steps: Vec::new(alloc),
         },
     }
 }
 
 /// Puts a text, if there was memory for it, and answers the status: 5 where the sink failed, 6 for want of memory.
 fn say<O: Sink>(sink: &mut O, text: Result<Vec<u8>, OutOfMemory>, status: u8) -> u8
-    requires { status < 5 }
+    requires not_sink { status ≢ 5 }
+    requires not_memory { status ≢ 6 }
     ensures said { Calm (O.faults sink.old) (O.faults sink.new) → result ≢ 6 → IsOkAnd text (λ t. (result ≡ status) × Appends (O.taken sink.old) (O.taken sink.new) t.items) }
     ensures whole { result ≡ status → IsOkAnd text (λ t. Appends (O.taken sink.old) (O.taken sink.new) t.items) }
     ensures part { MatchResult text (λ t. AppendsFront (O.taken sink.old) (O.taken sink.new) t.items) (λ _. O.taken sink.new ≡ O.taken sink.old) }
     ensures cause { result ≡ 5 → Rose (O.faults sink.old) (O.faults sink.new) }
     ensures failed { O.faults sink.old < O.faults sink.new → result ≡ 5 }
     ensures other { result ≢ status → 5 ≤ result }
-    ensures least { status ≤ result }
-    ensures most { result ≤ 6 }
+    ensures least { status < 5 → status ≤ result }
+    ensures most { status < 5 → result ≤ 6 }
 {
     match text {
         Err(_) => 6,
@@ -69,26 +64,27 @@ fn say<O: Sink>(sink: &mut O, text: Result<Vec<u8>, OutOfMemory>, status: u8) ->
     }
 }
 
-/// Writes the text of a history.
-fn tell<O: Sink>(alloc: Global, history: History, output: &mut O) -> Outcome
-    ensures kept { result.history.steps ≡ history.steps }
+/// Writes the answers of a history, and why its run stopped.
+fn tell<O: Sink>(alloc: Global, history: History, stop: &Stop, output: &mut O) -> Outcome
+    ensures kept { result.history.steps.items ≡ history.steps.items }
     ensures said { Calm (O.faults output.old) (O.faults output.new) → result.status ≢ 6
-        → (result.status ≡ status_of history.steps) × Appends (O.taken output.old) (O.taken output.new) (text_of history.steps) }
-    ensures part { AppendsFront (O.taken output.old) (O.taken output.new) (text_of history.steps) }
+        → (result.status ≡ status_of stop.now history.steps.items) × Appends (O.taken output.old) (O.taken output.new) (text_of history.steps.items ++ stop_text stop.now) }
+    ensures part { AppendsFront (O.taken output.old) (O.taken output.new) (text_of history.steps.items ++ stop_text stop.now) }
     ensures cause { result.status ≡ 5 → Rose (O.faults output.old) (O.faults output.new) }
     ensures failed { O.faults output.old < O.faults output.new → result.status ≡ 5 }
     ensures not_read { result.status ≢ 4 }
 {
-    let steps = history.steps.as_slice();
-    let done = status_of(steps);
-    let status = say(output, text_of(alloc, steps), done);
+    let done = status_of(stop, &history.steps);
+    let text = run_text(alloc, &history.steps, stop);
+    let status = say(output, text, done);
     Outcome { status, history }
 }
 
-/// Plays a script, and writes the text of its history.
+/// Plays a script, and writes what comes of it.
 fn run_script<O: Sink>(alloc: Global, script: &Script, output: &mut O) -> Outcome
     requires { Fits script.now }
-    ensures answers { Answers (answer_to_script script.now) (Calm (O.faults output.old) (O.faults output.new)) result.status result.history.steps (O.taken output.old) (O.taken output.new) }
+    ensures answers { (a : Answer) × IsAnswerOf script.now a
+        × Answers a (Calm (O.faults output.old) (O.faults output.new)) result.status result.history.steps.items (O.taken output.old) (O.taken output.new) }
     ensures cause { result.status ≡ 5 → Rose (O.faults output.old) (O.faults output.new) }
     ensures failed { O.faults output.old < O.faults output.new → result.status ≡ 5 }
     ensures not_read { result.status ≢ 4 }
@@ -98,7 +94,7 @@ fn run_script<O: Sink>(alloc: Global, script: &Script, output: &mut O) -> Outcom
         Err(_) => return ended(alloc, 6),
     };
     match play(&mut shard, script) {
-        Ok(()) => tell(alloc, shard.into_history(), output),
+        Ok(stop) => tell(alloc, shard.into_history(), &stop, output),
         Err(OutOfMemory) => Outcome {
             status: 6,
             history: shard.into_history(),
@@ -106,8 +102,9 @@ fn run_script<O: Sink>(alloc: Global, script: &Script, output: &mut O) -> Outcom
     }
 }
 
-fn run_text<O: Sink>(alloc: Global, text: &[u8], output: &mut O) -> Outcome
-    ensures answers { Answers (answer_to_reading (reading text.now)) (Calm (O.faults output.old) (O.faults output.new)) result.status result.history.steps (O.taken output.old) (O.taken output.new) }
+fn run_reading<O: Sink>(alloc: Global, text: &[u8], output: &mut O) -> Outcome
+    ensures answers { (a : Answer) × IsAnswerToReading (reading text.now) a
+        × Answers a (Calm (O.faults output.old) (O.faults output.new)) result.status result.history.steps.items (O.taken output.old) (O.taken output.new) }
     ensures cause { result.status ≡ 5 → Rose (O.faults output.old) (O.faults output.new) }
     ensures failed { O.faults output.old < O.faults output.new → result.status ≡ 5 }
     ensures not_read { result.status ≢ 4 }
@@ -129,9 +126,10 @@ pub fn step_words<I: Source, O: Sink>(
     input: &mut I,
     output: &mut O,
 ) -> Outcome
-    // Where the source did not fail, the answer is that of the words and the text that it gave.
+    // Where the source did not fail, the answer is one to the words and the text that it gave.
     ensures answered { Calm (I.faults input.old) (I.faults input.new) → (text : List ℕ) × WasRead (I.left input.old) text
-        × Answers (answer_to (map (λ w. w.items) words.now.items) text) (Calm (O.faults output.old) (O.faults output.new)) result.status result.history.steps (O.taken output.old) (O.taken output.new) }
+        × ((a : Answer) × IsAnswerTo (map (λ w. w.items) words.now.items) text a
+        × Answers a (Calm (O.faults output.old) (O.faults output.new)) result.status result.history.steps.items (O.taken output.old) (O.taken output.new)) }
     ensures unread { IsSome (usage_fault (map (λ w. w.items) words.now.items)) → I.left input.new ≡ I.left input.old }
 
     // A stream that failed is told by the status, which a stream that did not fail never gives.
@@ -139,18 +137,18 @@ pub fn step_words<I: Source, O: Sink>(
     ensures sink_failed { O.faults output.old < O.faults output.new → result.status ≡ 5 }
     ensures read { result.status ≡ 4 → Rose (I.faults input.old) (I.faults input.new) }
     ensures read_said { result.status ≡ 4 → Appends (O.taken output.old) (O.taken output.new) read_fault_text }
-    ensures read_kept { result.status ≡ 4 → result.history.steps ≡ [] }
+    ensures read_kept { result.status ≡ 4 → result.history.steps.items ≡ [] }
     ensures write { result.status ≡ 5 → Rose (O.faults output.old) (O.faults output.new) }
 
     // Whatever the streams did, the history is a run of the machine.
-    ensures safe { (config : Config) × IsSafe config result.history.steps }
+    ensures safe { (config : Config) × IsSafe config result.history.steps.items }
 {
     if let Some(word) = usage_fault(words) {
         let status = say(output, usage_text(alloc, word), 2);
         return ended(alloc, status);
     }
     match read_all(alloc, input) {
-        Ok(text) => run_text(alloc, &text, output),
+        Ok(text) => run_reading(alloc, &text, output),
         Err(ReadFault::OutOfMemory) => ended(alloc, 6),
         Err(ReadFault::Failed) => {
             let status = say(output, read_fault_text(alloc), 4);
@@ -166,9 +164,10 @@ pub fn vtshard_words<I: Source, O: Sink>(
     input: &mut I,
     output: &mut O,
 ) -> Outcome
-    // Where the source did not fail, the answer is that of the words and the text that it gave.
+    // Where the source did not fail, the answer is one to the words and the text that it gave.
     ensures answered { Calm (I.faults input.old) (I.faults input.new) → (text : List ℕ) × WasRead (I.left input.old) text
-        × Answers (answer_to (map (λ w. w.items) words.now.items) text) (Calm (O.faults output.old) (O.faults output.new)) result.status result.history.steps (O.taken output.old) (O.taken output.new) }
+        × ((a : Answer) × IsAnswerTo (map (λ w. w.items) words.now.items) text a
+        × Answers a (Calm (O.faults output.old) (O.faults output.new)) result.status result.history.steps.items (O.taken output.old) (O.taken output.new)) }
     ensures unread { IsSome (usage_fault (map (λ w. w.items) words.now.items)) → I.left input.new ≡ I.left input.old }
 
     // A stream that failed is told by the status, which a stream that did not fail never gives.
@@ -176,11 +175,11 @@ pub fn vtshard_words<I: Source, O: Sink>(
     ensures sink_failed { O.faults output.old < O.faults output.new → result.status ≡ 5 }
     ensures read { result.status ≡ 4 → Rose (I.faults input.old) (I.faults input.new) }
     ensures read_said { result.status ≡ 4 → Appends (O.taken output.old) (O.taken output.new) read_fault_text }
-    ensures read_kept { result.status ≡ 4 → result.history.steps ≡ [] }
+    ensures read_kept { result.status ≡ 4 → result.history.steps.items ≡ [] }
     ensures write { result.status ≡ 5 → Rose (O.faults output.old) (O.faults output.new) }
 
     // Whatever the streams did, the history is a run of the machine.
-    ensures safe { (config : Config) × IsSafe config result.history.steps }
+    ensures safe { (config : Config) × IsSafe config result.history.steps.items }
 {
     step_words(alloc, words, input, output)
 }

@@ -145,6 +145,140 @@ PlannedReparentShard commerce/0: refused 21 NotBuilt: intent of term 1
 }
 
 #[test]
+fn reparents_compete_for_the_lock(rt: HostRuntime) -> Result<(), Fail> {
+    let rows = [
+        // The lock is taken, then lapses, and the first one loses it to the next term.
+        Row {
+            script: &[
+                THREE_REPLICAS,
+                "start p PlannedReparentShard commerce/0 --new-primary zone1-100
+turn p 1
+PlannedReparentShard commerce/0 --new-primary zone1-101
+turn p 2
+lapse
+PlannedReparentShard commerce/0 --new-primary zone1-101
+finish p
+write 1
+",
+            ],
+            printed: "PlannedReparentShard commerce/0: refused 1 LockTaken: term 1 by p
+PlannedReparentShard commerce/0: refused 21 NotBuilt: intent of term 1
+[p] PlannedReparentShard commerce/0: refused 2 LockLost: topology is at term 2
+write: no primary recorded
+",
+            status: 1,
+        },
+        // A lock that lapses, with nobody who takes it.
+        Row {
+            script: &[
+                THREE_REPLICAS,
+                "start p PlannedReparentShard commerce/0 --new-primary zone1-100
+turn p 2
+lapse
+finish p
+",
+            ],
+            printed: "[p] PlannedReparentShard commerce/0: refused 2 LockLost: topology is at term 1\n",
+            status: 1,
+        },
+        // By its second event it has not intended yet, so the next term finds nothing in its way.
+        Row {
+            script: &[
+                THREE_REPLICAS,
+                "start p PlannedReparentShard commerce/0 --new-primary zone1-100
+turn p 2
+lapse
+PlannedReparentShard commerce/0 --new-primary zone1-101
+finish p
+",
+            ],
+            printed: "PlannedReparentShard commerce/0: promoted zone1-0000000101 in term 2
+[p] PlannedReparentShard commerce/0: refused 2 LockLost: topology is at term 2
+",
+            status: 1,
+        },
+    ];
+    plays(&rt, rt.alloc(), &rows)
+}
+
+#[test]
+fn started_commands_go_on(rt: HostRuntime) -> Result<(), Fail> {
+    let rows = [
+        // Two clients write: the one who writes first has the first number.
+        Row {
+            script: &[
+                THREE_REPLICAS,
+                "PlannedReparentShard commerce/0 --new-primary zone1-100
+start p write 1
+write 1
+finish p
+",
+            ],
+            printed: "PlannedReparentShard commerce/0: promoted zone1-0000000100 in term 1
+write: committed 00000000-0000-4000-8000-000000000100:2 on zone1-0000000100 in term 1
+[p] write: committed 00000000-0000-4000-8000-000000000100:3 on zone1-0000000100 in term 1
+",
+            status: 0,
+        },
+        // A write reads the record when it begins.
+        Row {
+            script: &[
+                THREE_REPLICAS,
+                "start p write 1
+PlannedReparentShard commerce/0 --new-primary zone1-100
+finish p
+",
+            ],
+            printed: "PlannedReparentShard commerce/0: promoted zone1-0000000100 in term 1
+[p] write: no primary recorded
+",
+            status: 1,
+        },
+        // A command that has ended goes on no more.
+        Row {
+            script: &[
+                THREE_REPLICAS,
+                "start p write 1
+finish p
+turn p 5
+finish p
+",
+            ],
+            printed: "[p] write: no primary recorded\n",
+            status: 1,
+        },
+        // One that is never finished answers nothing.
+        Row {
+            script: &[
+                THREE_REPLICAS,
+                "start p PlannedReparentShard commerce/0 --new-primary zone1-100
+turn p 3
+",
+            ],
+            printed: "",
+            status: 0,
+        },
+        // Turns stop where the command has ended, and the clock goes on in between.
+        Row {
+            script: &[
+                THREE_REPLICAS,
+                "start p PlannedReparentShard commerce/0 --new-primary zone1-100
+turn p 3
+tick 16s
+turn p 1000000
+write 1
+",
+            ],
+            printed: "[p] PlannedReparentShard commerce/0: promoted zone1-0000000100 in term 1
+write: committed 00000000-0000-4000-8000-000000000100:2 on zone1-0000000100 in term 1
+",
+            status: 0,
+        },
+    ];
+    plays(&rt, rt.alloc(), &rows)
+}
+
+#[test]
 fn other_lines_are_faults(rt: HostRuntime) -> Result<(), Fail> {
     let rows = [
         Row {

@@ -1,7 +1,7 @@
 use Rattle.std.specs.Prelude.{codes}
 use Rattle.std.specs.Fmt.{decimal}
 use Rattle.shard_top.specs.Texts.{lock_lost_text}
-use Rattle.shard_top.proofs.CourseLemmas.{piece_behind}
+use Rattle.shard_top.proofs.TextLemmas.{piece_behind}
 use Rattle.shard_top.proofs.texts.write_lock_lost.Goals as goal
 
 pub returns : goal.returns

@@ -1,7 +1,7 @@
 use Rattle.std.specs.Prelude.{codes}
 use Rattle.std.specs.Fmt.{decimal}
 use Rattle.shard_top.specs.Texts.{lock_taken_text}
-use Rattle.shard_top.proofs.CourseLemmas.{pieces_behind}
+use Rattle.shard_top.proofs.TextLemmas.{pieces_behind}
 use Rattle.shard_top.proofs.texts.write_lock_taken.Goals as goal
 
 pub returns : goal.returns

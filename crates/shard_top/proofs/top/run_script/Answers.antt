@@ -1,6 +1,15 @@
-use Rattle.shard_top.specs.Program.{answer_to_script}
-use Rattle.shard_top.proofs.TopLemmas.{gave_up}
+use Rattle.shard_top.proofs.TopLemmas.{gave_up_script, gave_up_by_playing, told_by}
 use Rattle.shard_top.proofs.top.run_script.Goals as goal
 
 pub returns-in-Err-clause-answers : goal.returns-in-Err-clause-answers
-returns-in-Err-clause-answers g c = gave_up (answer_to_script c.args.script.now) _ _ _ _ c.ended.ensures.status c.ended.ensures.empty c.requires.tablets
+returns-in-Err-clause-answers g c = gave_up_script c.args.script.now _ _ _ _ c.requires.tablets c.ended.ensures.status c.ended.ensures.empty
+
+pub returns-in-Ok-play-clause-answers : goal.returns-in-Ok-play-clause-answers
+returns-in-Ok-play-clause-answers g c =
+    told_by c.args.script.now c.in-Ok-play.stop _ _ c.play.new.shard c.into_history.result.steps.items _ _ _ c.into_history.ensures.steps c.in-Ok-play.ensures.config c.into_history.ensures.safe
+    c.in-Ok-play.ensures.ok c.tell.ensures.kept c.tell.ensures.said c.tell.ensures.part
+
+pub returns-in-Err-play-clause-answers : goal.returns-in-Err-play-clause-answers
+returns-in-Err-play-clause-answers g c =
+    gave_up_by_playing c.args.script.now _ c.play.new.shard c.into_history-in-Err-play.result.steps.items _ c.into_history-in-Err-play.ensures.steps c.in-Err-play.ensures.config
+    c.into_history-in-Err-play.ensures.safe c.in-Err-play.ensures.cut

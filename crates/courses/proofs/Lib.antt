@@ -1,0 +1,12 @@
+pub mod NextLemmas
+pub mod TopoLemmas
+pub mod TermLemmas
+pub mod StayLemmas
+pub mod OwnLemmas
+pub mod CourseLemmas
+pub mod PlayLemmas
+pub mod ActorLemmas
+pub mod MatchLemmas
+pub mod BeginLemmas
+pub mod EndLemmas
+pub mod PendingLemmas

@@ -1,0 +1,4 @@
+pub mod Course
+pub mod OnCourse
+pub mod Laws
+pub mod Pending

@@ -1,0 +1,66 @@
+-- The names that a script starts.
+use Rattle.std.specs.Prelude.{◌≡◌, ◌≢◌, ℕ, ◌<◌, ◌≤◌, List, [], ◌∷◌, ◌++◌, Bool, true, ◌&&◌, ◌||◌, not, nat_le, Option, length, codes, All, ⊤}
+use Rattle.std.specs.List.{list_all, list_any, Contains}
+use Rattle.std.specs.Str.{bytes_eq}
+use Rattle.shard_base.specs.Options.{only_if}
+use Rattle.shard_names.specs.Alias.{is_cell_byte}
+use Rattle.shard_script.specs.declared.script.Action.{Action}
+use Rattle.shard_script.specs.declared.script.Action.TheVariants.{Play, Start, Turn, Finish, Lapse, Tick}
+
+-- a byte that a cell may have
+unfoldable pub is_name_byte : ℕ → Bool
+unfolding is_cell_byte
+is_name_byte byte = is_cell_byte byte
+
+-- 1 to 16 bytes as those of a cell, which are neither `main` nor `control`
+pub record IsName (name : List ℕ) : Type 0 where
+  pub some_byte : 0 < length name
+  pub few_bytes : length name ≤ 16
+  pub bytes : list_all is_name_byte name ≡ true
+  pub not_main : name ≢ codes "main"
+  pub not_control : name ≢ codes "control"
+
+-- whether a name is one of the two that no line starts
+abbrev pub is_taken : List ℕ → Bool
+is_taken text = bytes_eq text (codes "main") || bytes_eq text (codes "control")
+
+unfoldable pub name_reading : List ℕ → Option (List ℕ)
+name_reading text =
+    only_if (nat_le 1 (length text) && nat_le (length text) 16 && list_all is_name_byte text && not (is_taken text)) text
+
+-- whether a name is among these
+abbrev pub has_name : List (List ℕ) → List ℕ → Bool
+has_name names name = list_any (bytes_eq name) names
+
+-- the name that an action starts, if it starts one
+abbrev pub started_by : Action → List (List ℕ)
+started_by (Play command n) = []
+started_by (Start name command) = name ∷ []
+started_by (Turn name pumps) = []
+started_by (Finish name) = []
+started_by Lapse = []
+started_by (Tick milliseconds) = []
+
+-- the names that actions start, in order
+abbrev pub started : List Action → List (List ℕ)
+started [] = []
+started (x ∷ xs) = started_by x ++ started xs
+
+-- no name is started twice
+abbrev pub NamesDiffer : List (List ℕ) → Type 0
+NamesDiffer [] = ⊤
+NamesDiffer (n ∷ ns) = All (λ m. n ≢ m) ns × NamesDiffer ns
+
+-- what an action turns or finishes is among these
+abbrev pub IsKnown : List (List ℕ) → Action → Type 0
+IsKnown names (Play command n) = ⊤
+IsKnown names (Start name command) = ⊤
+IsKnown names (Turn name pumps) = Contains names name
+IsKnown names (Finish name) = Contains names name
+IsKnown names Lapse = ⊤
+IsKnown names (Tick milliseconds) = ⊤
+
+-- what each action turns or finishes is among these or was started before it
+abbrev pub AreKnown : List (List ℕ) → List Action → Type 0
+AreKnown names [] = ⊤
+AreKnown names (x ∷ xs) = IsKnown names x × AreKnown (names ++ started_by x) xs

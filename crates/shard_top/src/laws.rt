@@ -1,0 +1,16 @@
+ghost use Rattle.shard_top.specs.Laws.{OneRun, PlaysToStop, PlayedIsRun};
+
+/// With given wants of memory a script plays one run, to one stop.
+pub fn one_run()
+    ensures { OneRun }
+{}
+
+/// What is played with some wants of memory goes on to a stop.
+pub fn plays_to_stop()
+    ensures { PlaysToStop }
+{}
+
+/// What is played is a run of the machine, in which each command keeps to its course, or leaves for want of memory.
+pub fn played_is_run()
+    ensures { PlayedIsRun }
+{}
