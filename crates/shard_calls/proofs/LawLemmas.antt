@@ -1,5 +1,5 @@
 -- That the definitions are moves, and what a refusal changes.
-use Rattle.std.proofs.Common.{◌≡◌, ℕ, ◌+◌, ◌≤◌, ◌<◌, max, Bool, true, false, refl, ap, arith, cond, ◌||◌, ◌==◌, nat_lt, Option, Some, None}
+use Rattle.std.proofs.Common.{◌≡◌, ℕ, ◌≤◌, ◌<◌, max, Bool, true, false, refl, ap, arith, cond, ◌||◌, ◌==◌, nat_lt, Option, Some, None}
 use Rattle.std.proofs.lemmas.Bool.Decides.{nat_tests}
 use Rattle.shard_names.specs.declared.alias.Alias.{Alias}
 use Rattle.shard_names.specs.declared.tablet.Tablet.{Tablet}
@@ -42,7 +42,7 @@ stop_moves u s more later =
     ]
 
 -- a choice between verdicts keeps what each of them has
-chosen : {A : Type 0} (P : Verdict A → Type 0) (b : Bool) (v w : Verdict A) → (b ≡ true → P v) → (b ≡ false → P w) → P (cond b v w)
+pub chosen : {A : Type 0} (P : Verdict A → Type 0) (b : Bool) (v w : Verdict A) → (b ≡ true → P v) → (b ≡ false → P w) → P (cond b v w)
 chosen P true v w p q = p refl
 chosen P false v w p q = q refl
 
@@ -50,13 +50,13 @@ demote_moves : (me : Tablet) (u : ℕ) (s : TabletState) → s.promised ≤ u �
 demote_moves me u s more later =
     chosen (λ v. TabletMove s v.state) (s.promised == u) _ _
     (λ there. Sees u later)
-    (λ other. chosen (λ v. TabletMove s v.state) (newest_row_names s.log me.alias) _ _ (λ own. Promises u u (stand.Demoted (newest_row s.log) u) later more (omega arith) refl) (λ no_own. Sees u later))
+    (λ other. chosen (λ v. TabletMove s v.state) (newest_row_names s.log me.alias) _ _ (λ own. Promises u u (stand.Demoted (newest_row s.log) u) later more (omega arith) (refl, refl)) (λ no_own. Sees u later))
 
 promote_moves : (me : Tablet) (u : ℕ) (p : Position) (s : TabletState) → s.promised ≤ u → s.seen ≤ u → TabletMove s (promotes me u p (seeing s u)).state
 promote_moves me u p s more later =
     chosen (λ v. TabletMove s v.state) (has_row s.log u) _ _
     (λ there. Sees u later)
-    (λ none. chosen (λ v. TabletMove s v.state) (covers (position_of s.log) p) _ _ (λ caught. Enters me u p later more caught) (λ short. Sees u later))
+    (λ none. chosen (λ v. TabletMove s v.state) (covers (position_of s.log) p) _ _ (λ caught. Enters me u p later more none caught) (λ short. Sees u later))
 
 join_moves : (u : ℕ) (source : Alias) (t : ℕ) (p : Position) (s : TabletState) → t ≤ u → s.seen ≤ u → TabletMove s (joins source t p (seeing s u)).state
 join_moves u source t p s fits later =
@@ -65,7 +65,7 @@ join_moves u source t p s fits later =
     (λ fresh. chosen (λ v. TabletMove s v.state) (is_primary_of s.stand t || is_replica_in s.stand t) _ _
     (λ kept. Sees u later)
     (λ other. chosen (λ v. TabletMove s v.state) (covers p (position_of s.log)) _ _
-    (λ inside. Promises u t (stand.Replica source t 1) later (let more : s.promised ≤ t = grind (arith, nat_tests) in more) fits refl)
+    (λ inside. Promises u t (stand.Replica source t 1) later (let more : s.promised ≤ t = grind (arith, nat_tests) in more) fits (refl, refl))
     (λ errant. Sees u later)))
 
 call_moves : (me : Tablet) (u : ℕ) (c : Call) (s : TabletState) → FitsTerm u c → s.promised ≤ s.seen → TabletMove s (after_call me u c s)
@@ -91,7 +91,7 @@ taken_from (stand.Replica source t next) from term after h =
 entry_moves : (from : Alias) (term after index : ℕ) (e : Entry) (s : TabletState) → row_or_zero e ≤ term → TabletMove s (accepts from term after index e s).state
 entry_moves from term after index e s low =
     chosen (λ v. TabletMove s v.state) (takes_from s.stand from term after) _ _
-    (λ takes. let at = taken_from s.stand from term after takes in Takes at.0 term at.1 (index + 1) e at.2 low)
+    (λ takes. let at = taken_from s.stand from term after takes in Takes at.0 term at.1 index e at.2 low)
     (λ ignored. Stays)
 
 ack_moves : (from : Alias) (term index : ℕ) (s : TabletState) → TabletMove s (after_ack from term index s)

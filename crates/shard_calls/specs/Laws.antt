@@ -47,12 +47,30 @@ HasItsRow log (stand.Primary t) = has_row log t ≡ true
 HasItsRow log (stand.Demoted t by) = ⊤
 HasItsRow log (stand.Replica source t next) = ⊤
 
+-- what was demoted in a term has no row of a later one
+abbrev pub RowsWithin : List Entry → Stand → Type 0
+RowsWithin log stand.Down = ⊤
+RowsWithin log stand.Stopped = ⊤
+RowsWithin log (stand.Primary t) = ⊤
+RowsWithin log (stand.Demoted t by) = newest_row log ≤ t
+RowsWithin log (stand.Replica source t next) = ⊤
+
+-- the entry that a replica waits for has an index, which counts from 1
+abbrev pub WaitsForEntry : Stand → Type 0
+WaitsForEntry stand.Down = ⊤
+WaitsForEntry stand.Stopped = ⊤
+WaitsForEntry (stand.Primary t) = ⊤
+WaitsForEntry (stand.Demoted t by) = ⊤
+WaitsForEntry (stand.Replica source t next) = 1 ≤ next
+
 pub record IsSound (s : TabletState) : Type 0 where
   pub seen : s.promised ≤ s.seen
   pub stands : IsPromised s.promised s.stand
   -- the rows' terms are at most the promise
   pub rows : newest_row s.log ≤ s.promised
   pub own_row : HasItsRow s.log s.stand
+  pub demoted : RowsWithin s.log s.stand
+  pub waits : WaitsForEntry s.stand
 
 abbrev pub KeepsSound : Later → Type 0
 KeepsSound R = (s t : TabletState) → R s t → IsSound s → IsSound t

@@ -3,3 +3,17 @@ pub mod Stands
 pub mod Tablets
 pub mod Moves
 pub mod Laws
+pub mod World
+pub mod Messages
+pub mod Outcomes
+pub mod Evidence
+pub mod Causes
+pub mod Begins
+pub mod Locks
+pub mod Deliveries
+pub mod Writes
+pub mod Table
+pub mod Promotions
+pub mod RunLaws
+pub mod Answered
+pub mod Safe

@@ -1,19 +1,35 @@
-//! What a tablet is asked, what it answers, and what it becomes: a replicated MySQL server under Vitess's tablet manager.
+//! What happens to one shard, whose commands and tablets talk by messages: a replicated MySQL server under Vitess's tablet manager is
+//! what a tablet is.
 #![tactic(auto)]
 
 mod answer;
 mod call;
+mod command;
+mod event;
 mod laws;
 mod outcome;
+mod post;
+mod run_laws;
 mod stand;
+mod state;
 mod why;
 
 pub use answer::Answer;
 pub use call::Call;
+pub use command::{Bar, Command, CommandAnswer, Left, NotJoined, Refusal, Unacked};
+pub use event::{Event, History, Link, Reply, Seen, Side, Step};
 pub use laws::{
     log_only_grows, promise_never_falls, refusal_changes_seen_alone, rows_are_promised,
     seen_never_falls, stale_term_is_refused, steps_are_moves,
 };
 pub use outcome::{Accepted, Restarted, Written};
+pub use post::{Content, Message, Settled};
+pub use run_laws::{
+    acknowledged_is_held, each_answer_has_its_cause, each_step_is_a_move,
+    each_transaction_is_one_entry, every_history_is_safe, logs_are_closed, logs_grow_at_their_ends,
+    one_intent_in_a_term, one_promotion_in_a_term, promoted_holds_what_was_told,
+    tablets_stay_sound, term_of_topology_never_falls, told_is_kept,
+};
 pub use stand::{Stand, Standing};
+pub use state::{Act, ActorState, CommandState, Shown, Wrote};
 pub use why::Why;

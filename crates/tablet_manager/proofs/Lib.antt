@@ -1,3 +1,4 @@
 pub mod AckLemmas
 pub mod RowLemmas
 pub mod ManagedLemmas
+pub mod PlaceLemmas

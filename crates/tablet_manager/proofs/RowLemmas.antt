@@ -35,7 +35,7 @@ by_term : (o : Option ℕ) (term : ℕ) → unwrap_or o 0 < term → (elim o as 
 by_term None term above = refl
 by_term (Some t) term above = grind (arith, nat_tests)
 
-not_row : (e : Entry) (term : ℕ) → row_or_zero e < term → is_row_of term e ≡ false
+pub not_row : (e : Entry) (term : ℕ) → row_or_zero e < term → is_row_of term e ≡ false
 not_row e term above = by_term (row_term e.kind) term above
 
 and_false : (a b : Bool) → a ≡ false → (a && b) ≡ false

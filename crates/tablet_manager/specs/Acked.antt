@@ -1,4 +1,5 @@
--- The greatest index that each tablet acknowledged, as two lists beside each other.
+-- The greatest index that each tablet acknowledged, as two lists beside each other. A replica acknowledges what it has received (MySQL 8.0 manual,
+-- "Semisynchronous Replication").
 use Rattle.std.specs.Prelude.{◌≡◌, ◌≢◌, ℕ, zero, suc, List, [], ◌∷◌, ⊤, if◌then◌else◌}
 use Rattle.shard_names.specs.declared.alias.Alias.{Alias}
 use Rattle.shard_names.specs.Tablets.{alias_eq}

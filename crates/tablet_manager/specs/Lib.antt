@@ -3,3 +3,4 @@ pub mod PlainLog
 pub mod Acked
 pub mod Managed
 pub mod Manager
+pub mod Rows

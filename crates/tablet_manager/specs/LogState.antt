@@ -1,4 +1,4 @@
--- A tablet's log and terms.
+-- A tablet's log (MySQL 8.0 manual, "The Binary Log") and the terms that it has seen and promised (Sougoumarane, "Consensus algorithms at scale").
 use Rattle.std.specs.Prelude.{ℕ, List}
 use Rattle.gtid_sets.specs.declared.entry.Entry.{Entry}
 

@@ -1,4 +1,4 @@
--- A tablet as its manager has it.
+-- A tablet as its manager has it (Vitess manual, tablet manager).
 use Rattle.std.specs.Prelude.{◌≡◌, ℕ, Bool, ◌&&◌, ◌||◌, ◌==◌, nat_lt, List, if◌then◌else◌}
 use Rattle.shard_names.specs.declared.alias.Alias.{Alias}
 use Rattle.shard_names.specs.declared.tablet.Tablet.{Tablet}

@@ -1,7 +1,8 @@
-ghost use Rattle.std.specs.Prelude.{◌≡◌, ◌<◌, [], ◌∷◌, ◌++◌, nat_eq, vec_len, vec_capacity, OnOk, OnErr, IfOk};
+ghost use Rattle.std.specs.Prelude.{◌≡◌, ◌<◌, ◌-◌, ◌^◌, [], ◌∷◌, ◌++◌, nat_eq, vec_len, vec_capacity, OnOk, OnErr, IfOk};
 ghost use Rattle.gtid_sets.specs.Position.{with_gtid, minus};
-ghost use Rattle.shard_calls.specs.Logs.{position_of, holds, newest_row, row_or_zero, has_row, rows_of};
+ghost use Rattle.shard_calls.specs.Logs.{position_of, holds, newest_row, row_or_zero, has_row, rows_of, place_of_row};
 ghost use Rattle.std.specs.List.{list_any};
+ghost use Rattle.tablet_manager.specs.Rows.{place_after};
 
 use gtid_sets::{Entry, Gtid, GtidSet, Kind, minus};
 use shard_base::OutOfMemory;
@@ -18,6 +19,7 @@ pub struct PlainLog {
     seen: u64,
     promised: u64,
     newest: u64,
+    newest_at: Option<u64>,
 }
 
 impl Model for PlainLog {
@@ -40,6 +42,26 @@ fn row_or_zero(entry: &Entry) -> u64
         Kind::Write { .. } => 0,
         Kind::Row { term, .. } => *term,
         Kind::Local => 0,
+    }
+}
+
+/// The index of the newest row, once such an entry comes behind so many others.
+fn place_after(newest: u64, at: Option<u64>, count: u64, kind: &Kind) -> Option<u64>
+    requires { count < 2 ^ 64 - 1 }
+    ensures { result ≡ place_after newest at count kind.now }
+{
+    match kind {
+        Kind::Write { .. } => at,
+        Kind::Row { term, .. } => {
+            if *term > newest {
+                return Some(count + 1);
+            }
+            if *term == newest {
+                return Some(at.unwrap_or(count + 1));
+            }
+            at
+        }
+        Kind::Local => at,
     }
 }
 
@@ -107,6 +129,7 @@ impl PlainLog {
             seen: 0,
             promised: 0,
             newest: 0,
+            newest_at: None,
         }
     }
 
@@ -143,6 +166,13 @@ impl PlainLog {
         ensures { result ≡ newest_row self.now.entries }
     {
         self.newest
+    }
+
+    /// The index of the first row of that term, counted from 1, if there is a row.
+    pub fn newest_at(&self) -> Option<u64>
+        ensures { result ≡ place_of_row self.now.entries (newest_row self.now.entries) }
+    {
+        self.newest_at
     }
 
     /// Whether the log has the transaction.
@@ -187,8 +217,11 @@ impl PlainLog {
         ensures ok { OnOk result (self.new ≡ record self.old { entries = self.old.entries ++ entry.now ∷ [] }) }
         ensures err { OnErr result (self.new ≡ self.old) }
     {
+        let count = self.entries.len() as u64;
+        let newest_at = place_after(self.newest, self.newest_at, count, &entry.kind);
         append_to(&mut self.entries, &mut self.held, &mut self.rows, entry)?;
         self.newest = self.newest.max(row_or_zero(entry));
+        self.newest_at = newest_at;
         Ok(())
     }
 

@@ -1,9 +1,11 @@
-use Rattle.std.proofs.Common.{◌∙◌, ◌∷◌, [], ◌++◌, ap, sym, max, ℕ, List}
+use Rattle.std.proofs.Common.{◌≡◌, ◌∙◌, ◌∷◌, [], arith, rules, ◌++◌, ap, sym, max, ℕ, List, Option, length}
 use Rattle.gtid_sets.specs.Position.{Position, with_gtid}
 use Rattle.gtid_sets.specs.declared.entry.Entry.{Entry}
-use Rattle.shard_calls.specs.Logs.{position_of, newest_row, rows_of}
+use Rattle.shard_calls.specs.Logs.{position_of, newest_row, place_of_row, rows_of}
 use Rattle.shard_calls.proofs.LogLemmas.{position-push, newest-push}
+use Rattle.tablet_manager.specs.Rows.{place_after}
 use Rattle.tablet_manager.proofs.RowLemmas.{rows-push}
+use Rattle.tablet_manager.proofs.PlaceLemmas.{place-push}
 use Rattle.tablet_manager.proofs.plain_log.PlainLog.append.Goals as goal
 
 pub invariant_of-self-2 : goal.invariant_of-self-2
@@ -21,4 +23,10 @@ invariant_of-self-2 c = record {
       ∙ ap (λ (n : ℕ). max (newest_row c.self.inside.entries.items) n) c.row_or_zero.ensures
       ∙ sym (newest-push c.self.inside.entries.items c.args.entry.now)
       ∙ ap (λ (log : List Entry). newest_row log) (sym c.in_ok-append_to.ensures.ok_entries);
+  place = c.place_after-newest_at.ensures
+      ∙ ap (λ (n : ℕ). place_after n c.self.inside.newest_at c.len-count.result c.args.entry.now.kind) c.self.invariant.newest
+      ∙ ap (λ (o : Option ℕ). place_after (newest_row c.self.inside.entries.items) o c.len-count.result c.args.entry.now.kind) c.self.invariant.place
+      ∙ ap (λ (n : ℕ). place_after (newest_row c.self.inside.entries.items) (place_of_row c.self.inside.entries.items (newest_row c.self.inside.entries.items)) n c.args.entry.now.kind) (let count : c.len-count.result ≡ length c.self.inside.entries.items = grind (arith, rules, c.len-count.ensures) in count)
+      ∙ sym (place-push c.self.inside.entries.items c.args.entry.now)
+      ∙ ap (λ (log : List Entry). place_of_row log (newest_row log)) (sym c.in_ok-append_to.ensures.ok_entries);
 }

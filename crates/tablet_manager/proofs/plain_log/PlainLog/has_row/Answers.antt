@@ -1,4 +1,4 @@
-use Rattle.std.proofs.Common.{◌≡◌, List, ℕ, Bool, nat_eq, ap, ◌∙◌}
+use Rattle.std.proofs.Common.{List, ℕ, nat_eq, ap, ◌∙◌}
 use Rattle.std.specs.List.{list_any}
 use Rattle.tablet_manager.proofs.RowLemmas.{any_rows}
 use Rattle.tablet_manager.proofs.plain_log.PlainLog.has_row.Goals as goal

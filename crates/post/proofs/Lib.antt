@@ -1,0 +1,5 @@
+pub mod ChangeLemmas
+pub mod NumberLemmas
+pub mod QueueLemmas
+pub mod KeptLemmas
+pub mod MemberLemmas

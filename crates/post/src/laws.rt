@@ -1,0 +1,15 @@
+//! What the kept numbers are. The functions do nothing: each one's contract is a law.
+
+ghost use Rattle.post.specs.Laws.{WaitingIsExact, WaitingRises, AnswersAreExact, AnswersRise};
+
+/// The numbers that wait on a direction are those of its messages that have not come and are not lost, rising.
+pub fn waiting_is_exact()
+    ensures exact { WaitingIsExact }
+    ensures rising { WaitingRises }
+{}
+
+/// The numbers of the answers to a call are those of the messages that answer it, rising.
+pub fn answers_are_exact()
+    ensures exact { AnswersAreExact }
+    ensures rising { AnswersRise }
+{}

@@ -1,0 +1,84 @@
+-- The lock, the intents and the record, as a command uses them. After the shard lock of Vitess's topology service (Vitess manual) and the terms of
+-- Sougoumarane's "Consensus algorithms at scale".
+use Rattle.std.specs.Prelude.{ℕ, Bool, true, false, not, ◌||◌, Option, Some, None, Result, Ok, Err, is_none, if◌then◌else◌}
+use Rattle.shard_names.specs.declared.alias.Alias.{Alias}
+use Rattle.topo_lock.specs.Topology.{Topology, is_held_in, last_intent, answer_take, after_take, answer_intend, after_intend, answer_record, after_record, after_release}
+use Rattle.topo_lock.specs.declared.lock.LockTaken.{LockTaken}
+use Rattle.topo_lock.specs.declared.lock.TopoFault.{TopoFault}
+use Rattle.topo_lock.specs.declared.lock.TopoFault.TheVariants as faults
+use Rattle.shard_calls.specs.declared.event.Reply.{Reply}
+use Rattle.shard_calls.specs.declared.event.Reply.TheVariants as replies
+use Rattle.shard_calls.specs.declared.state.Act.{Act}
+use Rattle.shard_calls.specs.declared.state.Act.TheVariants as acts
+use Rattle.shard_calls.specs.declared.state.CommandState.{CommandState}
+use Rattle.shard_calls.specs.World.{World, on_topo, on_command, with_act, open_command}
+use Rattle.shard_calls.specs.Evidence.{is_alias_of}
+
+-- ---- Take: the next term, unless the lock is held
+
+abbrev pub took_nothing : Option CommandState → Bool
+took_nothing None = false
+took_nothing (Some s) = is_none s.term
+
+abbrev pub taken_reply : Result ℕ LockTaken → Reply
+taken_reply (Ok t) = replies.Term t
+taken_reply (Err held) = replies.Taken held.term held.actor
+
+abbrev pub with_taken : Result ℕ LockTaken → CommandState → CommandState
+with_taken (Ok t) s = record s { term = Some t }
+with_taken (Err held) s = with_act (acts.Taken held.term held.actor) s
+
+abbrev pub takes_by : World → ℕ → Option CommandState → World
+takes_by w c None = w
+takes_by w c (Some s) = on_command (on_topo w (after_take w.topo (record { command = c; actor = s.actor }))) c (with_taken (answer_take w.topo))
+
+abbrev pub takes : World → ℕ → World
+takes w c = takes_by w c (open_command w c)
+
+-- ---- Read, Intend, Record and Release, each of a command that took the lock
+
+-- of the term in which the command took the lock
+abbrev pub by_term : {A : Type 0} → Option ℕ → A → (ℕ → A) → A
+by_term None none some = none
+by_term (Some t) none some = some t
+
+abbrev pub read_reply : Topology → ℕ → Reply
+read_reply topo t = if is_held_in topo t then replies.Seen (record { recorded = topo.recorded; last_intent = last_intent topo }) else replies.Lost topo.term
+
+abbrev pub read_act : Topology → ℕ → Act
+read_act topo t = if is_held_in topo t then acts.Read (record { recorded = topo.recorded; last_intent = last_intent topo }) else acts.Lost topo.term
+
+abbrev pub reads : World → ℕ → ℕ → World
+reads w c t = on_command w c (with_act (read_act w.topo t))
+
+abbrev pub topo_reply : Result (Unit {0}) TopoFault → Reply
+topo_reply (Ok u) = replies.Ok
+topo_reply (Err (faults.LockLost current)) = replies.Lost current
+topo_reply (Err (faults.IntentStands a)) = replies.Stands a
+
+abbrev pub with_intended : Result (Unit {0}) TopoFault → CommandState → CommandState
+with_intended (Ok u) s = s
+with_intended (Err (faults.LockLost current)) s = with_act (acts.Lost current) s
+with_intended (Err (faults.IntentStands a)) s = s
+
+abbrev pub intends_in : World → ℕ → Alias → ℕ → World
+intends_in w c a t = on_command (on_topo w (after_intend w.topo t a)) c (with_intended (answer_intend w.topo t a))
+
+-- where the lock is held in the term, the last intent names the tablet
+abbrev pub may_record : Topology → Alias → ℕ → Bool
+may_record topo a t = not (is_held_in topo t) || is_alias_of (last_intent topo) a
+
+abbrev pub with_recorded : Alias → Result (Unit {0}) TopoFault → CommandState → CommandState
+with_recorded a (Ok u) s = with_act (acts.Recorded a) s
+with_recorded a (Err (faults.LockLost current)) s = with_act (acts.Lost current) s
+with_recorded a (Err (faults.IntentStands b)) s = s
+
+abbrev pub records_in : World → ℕ → Alias → ℕ → World
+records_in w c a t = on_command (on_topo w (after_record w.topo t w.clock)) c (with_recorded a (answer_record w.topo t))
+
+-- it has made its Release
+abbrev pub as_released : CommandState → CommandState
+as_released s = record s { released = true }
+
+abbrev pub releases_in : World → ℕ → ℕ → World
+releases_in w c t = on_command (on_topo w (after_release w.topo t)) c as_released
