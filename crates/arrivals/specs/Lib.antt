@@ -1,0 +1,6 @@
+pub mod Addressed
+pub mod Arrivals
+pub mod Feeding
+pub mod Ways
+pub mod GivingUp
+pub mod Laws

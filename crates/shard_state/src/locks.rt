@@ -1,0 +1,152 @@
+//! The lock, the intents and the record: what a command may do with them, and what it is answered.
+
+ghost use Rattle.std.specs.Prelude.{◌≡◌, ◌<◌, ◌-◌, ◌^◌, nat_eq, nat_lt, false};
+ghost use Rattle.std.specs.List.{find, list_any};
+ghost use Rattle.std.specs.Option.{option_copied};
+ghost use Rattle.topo_lock.specs.Topology.{admitted_by, answer_take, answer_intend, answer_record};
+ghost use Rattle.shard_calls.specs.World.{numbered, if_open};
+ghost use Rattle.shard_calls.specs.Evidence.{is_alias_of, intends, is_first};
+ghost use Rattle.shard_calls.specs.Locks.{took_nothing, by_term, may_record, taken_reply, read_reply, topo_reply};
+ghost use Rattle.shard_calls.specs.declared.event.Reply.TheVariants as replies;
+
+use crate::lookups::open_command;
+use shard_calls::{CommandState, Reply, Seen};
+use shard_names::Alias;
+use topo_lock::{Intent, Topo};
+
+/// Whether the command of this number is open, and has not taken the lock.
+pub fn took_nothing(commands: &[CommandState], command: u64) -> bool
+    ensures { result ≡ took_nothing (if_open (numbered commands.now command)) }
+{
+    match open_command(commands, command) {
+        Some(state) => state.term.is_none(),
+        None => false,
+    }
+}
+
+/// Whether the intent names the tablet.
+pub fn is_alias_of(intent: &Option<Intent>, alias: &Alias) -> bool
+    ensures { result ≡ is_alias_of intent.now alias.now }
+{
+    match intent {
+        Some(intent) => intent.alias == *alias,
+        None => false,
+    }
+}
+
+/// Whether a command of this term may record the tablet: where it holds the lock, the last intent is to name it.
+pub fn may_record(topo: &Topo, alias: &Alias, term: Option<u64>) -> bool
+    ensures { result ≡ by_term term false (may_record topo.now.topology alias.now) }
+{
+    match term {
+        Some(term) => !topo.is_held_in(term) || is_alias_of(&topo.last_intent(), alias),
+        None => false,
+    }
+}
+
+/// The intent of this term.
+fn intent_of(intents: &[Intent], term: u64) -> Option<&Intent>
+    ensures { option_copied result ≡ find (λ i. nat_eq i.term term) intents.now }
+{
+    intents.iter().find(|intent| intent.term == term)
+}
+
+fn is_intended(intents: &[Intent], term: u64, alias: &Alias) -> bool
+    ensures { result ≡ is_alias_of (find (λ i. nat_eq i.term term) intents.now) alias.now }
+{
+    match intent_of(intents, term) {
+        Some(intent) => intent.alias == *alias, // of the term
+        None => false,
+    }
+}
+
+/// Whether the term intends the tablet. It costs at most a walk over the intents.
+pub fn intends(topo: &Topo, term: u64, alias: &Alias) -> bool
+    ensures { result ≡ intends topo.now.topology term alias.now }
+{
+    is_intended(topo.intents(), term, alias)
+}
+
+fn has_earlier(intents: &[Intent], term: u64) -> bool
+    ensures { result ≡ list_any (λ i. nat_lt i.term term) intents.now }
+{
+    intents.iter().any(|intent| intent.term < term)
+}
+
+/// Whether no earlier term intends anything. It costs at most a walk over the intents.
+pub fn is_first(topo: &Topo, term: u64) -> bool
+    ensures { result ≡ is_first topo.now.topology term }
+{
+    !has_earlier(topo.intents(), term)
+}
+
+/// What a Take would be answered.
+pub fn taken_reply(topo: &Topo) -> Reply
+    requires { topo.now.topology.term < 2 ^ 64 - 1 }
+    ensures { result ≡ taken_reply (answer_take topo.now.topology) }
+{
+    match topo.holder() {
+        Some(holder) => Reply::Taken {
+            term: topo.term(),
+            by: holder.actor,
+        },
+        None => Reply::Term {
+            term: topo.term() + 1,
+        },
+    }
+}
+
+/// What a Read would be answered.
+pub fn read_reply(topo: &Topo, term: Option<u64>) -> Reply
+    ensures { result ≡ by_term term replies.Ok (read_reply topo.now.topology) }
+{
+    match term {
+        Some(term) if topo.is_held_in(term) => Reply::Seen {
+            seen: Seen {
+                recorded: topo.recorded(),
+                last_intent: topo.last_intent(),
+            },
+        },
+        Some(_) => Reply::Lost { term: topo.term() },
+        None => Reply::Ok,
+    }
+}
+
+/// What the intent of the term, if there is one, answers to one who intends the tablet.
+fn admitted_reply(intents: &[Intent], term: u64, alias: &Alias) -> Reply
+    ensures { result ≡ topo_reply (admitted_by (find (λ i. nat_eq i.term term) intents.now) alias.now) }
+{
+    match intent_of(intents, term) {
+        Some(standing) => {
+            if standing.alias == *alias {
+                Reply::Ok
+            } else {
+                Reply::Stands {
+                    alias: standing.alias,
+                }
+            }
+        }
+        None => Reply::Ok,
+    }
+}
+
+/// What an Intend would be answered.
+pub fn intend_reply(topo: &Topo, term: Option<u64>, alias: &Alias) -> Reply
+    ensures { result ≡ by_term term replies.Ok (λ t. topo_reply (answer_intend topo.now.topology t alias.now)) }
+{
+    match term {
+        Some(term) if topo.is_held_in(term) => { admitted_reply(topo.intents(), term, alias) }
+        Some(_) => Reply::Lost { term: topo.term() },
+        None => Reply::Ok,
+    }
+}
+
+/// What a Record would be answered.
+pub fn record_reply(topo: &Topo, term: Option<u64>) -> Reply
+    ensures { result ≡ by_term term replies.Ok (λ t. topo_reply (answer_record topo.now.topology t)) }
+{
+    match term {
+        Some(term) if !topo.is_held_in(term) => Reply::Lost { term: topo.term() },
+        _ => Reply::Ok,
+    }
+}

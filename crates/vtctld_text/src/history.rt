@@ -1,0 +1,103 @@
+ghost use Rattle.std.specs.Prelude.{◌≡◌, ◌++◌, ◌∷◌, [], IfOk, OnOk};
+ghost use Rattle.std.specs.Option.{option_copied};
+ghost use Rattle.std.specs.List.{flat_map};
+ghost use Rattle.shard_calls.specs.World.{numbered};
+ghost use Rattle.vtctld_text.specs.Texts.{begun_by, commands_of, event_text, text_of, refuses, has_refusal};
+
+use crate::answer::{is_refused, write_answer};
+use crate::begun::Begun;
+use shard_base::OutOfMemory;
+use shard_calls::{Command, Event, Step};
+use shard_names::{Alias, Name};
+use std::alloc::Global;
+
+fn push_command(
+    commands: &mut Vec<Begun>,
+    actor: &Name,
+    command: &Command,
+) -> Result<(), OutOfMemory>
+    ensures { OnOk result (commands.new.items ≡ commands.old.items ++ record { actor = actor.now; command = command.now } ∷ []) }
+{
+    let _to: Option<&Option<Alias>> = None;
+    commands.push(Begun {
+        actor: *actor,
+        command: *command,
+    })?;
+    Ok(())
+}
+
+/// Adds the command that an event begins, if it does.
+fn push_begun(commands: &mut Vec<Begun>, event: &Event) -> Result<(), OutOfMemory>
+    ensures { OnOk result (commands.new.items ≡ commands.old.items ++ begun_by event.now) }
+{
+    match event {
+        Event::Begin { actor, command } => push_command(commands, actor, command),
+        _ => Ok(()),
+    }
+}
+
+/// The commands that begin, in order.
+fn commands_of(alloc: Global, steps: &[Step]) -> Result<Vec<Begun>, OutOfMemory>
+    ensures { IfOk result (λ commands. commands.items ≡ commands_of steps.now) }
+{
+    let mut commands = Vec::new(alloc);
+    for step in steps {
+        push_begun(&mut commands, &step.event)?;
+    }
+    Ok(commands)
+}
+
+/// The command of a number, counted from 1.
+fn command_at(commands: &[Begun], number: u64) -> Option<&Begun>
+    ensures { option_copied result ≡ numbered commands.now number }
+{
+    if number == 0 {
+        return None;
+    }
+    commands.get(number as usize - 1)
+}
+
+fn write_event(commands: &[Begun], event: &Event, into: &mut Vec<u8>) -> Result<(), OutOfMemory>
+    ensures { OnOk result (into.new.items ≡ into.old.items ++ event_text commands.now event.now) }
+{
+    match event {
+        Event::End { command, answer } => {
+            write_answer(command_at(commands, *command), answer, into)
+        }
+        _ => Ok(()),
+    }
+}
+
+fn write_events(alloc: Global, commands: &[Begun], steps: &[Step]) -> Result<Vec<u8>, OutOfMemory>
+    ensures { IfOk result (λ text. text.items ≡ flat_map (λ s. event_text commands.now s.event) steps.now) }
+{
+    let mut text = Vec::new(alloc);
+    for step in steps {
+        write_event(commands, &step.event, &mut text)?;
+    }
+    Ok(text)
+}
+
+/// The answer of each command that ended, in order, each in a line of its own, with a line behind it for each tablet that did not join.
+pub fn text_of(alloc: Global, steps: &[Step]) -> Result<Vec<u8>, OutOfMemory>
+    ensures { IfOk result (λ text. text.items ≡ text_of steps.now) }
+{
+    let commands = commands_of(alloc, steps)?;
+    write_events(alloc, &commands, steps)
+}
+
+fn refuses(event: &Event) -> bool
+    ensures { result ≡ refuses event.now }
+{
+    match event {
+        Event::End { answer, .. } => is_refused(answer),
+        _ => false,
+    }
+}
+
+/// Whether a command that ended was refused: a refused reparent, or a write that is not committed.
+pub fn has_refusal(steps: &[Step]) -> bool
+    ensures { result ≡ has_refusal steps.now }
+{
+    steps.iter().any(|step| refuses(&step.event))
+}
