@@ -56,14 +56,14 @@ list_pushed : (lists : List (List ℕ)) (k : ℕ) → list_of (lists ++ [] ∷ [
 list_pushed lists zero = refl
 list_pushed lists (suc k) = default_pushed lists k []
 
-list_changed : (lists : List (List ℕ)) (j k : ℕ) (f : List ℕ → List ℕ) → j < length lists
+pub list_changed : (lists : List (List ℕ)) (j k : ℕ) (f : List ℕ → List ℕ) → j < length lists
     → list_of (changed lists j f) k ≡ cond (suc j == k) (f (list_of lists k)) (list_of lists k)
 list_changed lists j zero f short = nothing_changed (suc j) zero (f []) [] (let apart : (suc j == zero) ≡ false = grind (arith, nat_tests) in apart)
 list_changed lists j (suc k) f short =
     changed_member lists j k f [] short
     ∙ ap (λ (t : Bool). cond t (f (get_or lists k [])) (get_or lists k [])) (let same : (j == k) ≡ (suc j == suc k) = grind (arith, nat_tests) in same)
 
-some_short : {A : Type 0} (xs : List A) (k : ℕ) → is_some (slice_get xs k) ≡ true → k < length xs
+pub some_short : {A : Type 0} (xs : List A) (k : ℕ) → is_some (slice_get xs k) ≡ true → k < length xs
 some_short [] k some = absurd (cc)
 some_short (x ∷ xs) zero some = omega arith
 some_short (x ∷ xs) (suc k) some = omega (arith, some_short xs k some)

@@ -3,3 +3,4 @@ pub mod NumberLemmas
 pub mod QueueLemmas
 pub mod KeptLemmas
 pub mod MemberLemmas
+pub mod BackLemmas

@@ -4,7 +4,7 @@ use Rattle.shard_names.specs.declared.alias.Alias.{Alias}
 use Rattle.shard_calls.specs.declared.post.Content.{Content}
 use Rattle.shard_calls.specs.declared.post.Content.TheVariants as contents
 use Rattle.shard_calls.specs.declared.post.Message.{Message}
-use Rattle.shard_calls.specs.World.{changed}
+use Rattle.shard_calls.specs.World.{changed, changed_at}
 use Rattle.post.specs.Directions.{place_from, place_to}
 use Rattle.post.specs.Waiting.{numbers_of, is_on_its_way, answers_on}
 use Rattle.post.specs.Posted.{Posted}
@@ -50,6 +50,15 @@ list_of lists (suc k) = get_or lists k []
 abbrev pub left_by : List Alias → List (List ℕ) → ℕ → Option Message → List (List ℕ)
 left_by aliases queues k None = queues
 left_by aliases queues k (Some m) = if is_on_its_way m then changed queues (direction_of aliases m.content) (taken_out k) else queues
+
+-- the queues and the lists once the last message is gone, whose number ends its queue, if it waits, and the list of the call that it answers
+abbrev pub forgotten_by : List Alias → List (List ℕ) → Option Message → List (List ℕ)
+forgotten_by aliases queues None = queues
+forgotten_by aliases queues (Some m) = if is_on_its_way m then changed queues (direction_of aliases m.content) without_last else queues
+
+abbrev pub unanswered_by : List (List ℕ) → Option Message → List (List ℕ)
+unanswered_by lists None = lists
+unanswered_by lists (Some m) = changed_at lists (asked_by m.content) without_last
 
 -- ---- the invariant
 

@@ -1,9 +1,9 @@
-ghost use Rattle.std.specs.Prelude.{◌≡◌, ◌<◌, ◌≤◌, ◌+◌, ◌*◌, ◌∷◌, ◌++◌, [], replicate, length, OnOk, OnErr, IfOk};
+ghost use Rattle.std.specs.Prelude.{◌≡◌, ◌<◌, ◌≤◌, ◌+◌, ◌-◌, ◌*◌, ◌∷◌, ◌++◌, [], replicate, take, length, OnOk, OnErr, IfOk};
 ghost use Rattle.shard_calls.specs.World.{numbered, changed, changed_at};
-ghost use Rattle.post.specs.Kept.{with_number, without_last, taken_out, left_by};
+ghost use Rattle.post.specs.Kept.{with_number, without_last, taken_out, left_by, forgotten_by, unanswered_by};
 
 use crate::change::{index_of, is_on_its_way, message_at, push_message};
-use crate::direction::direction_of;
+use crate::direction::{asked_by, direction_of};
 use crate::queue::Queue;
 use shard_base::{Items, OutOfMemory};
 use shard_calls::Message;
@@ -115,4 +115,57 @@ pub(crate) fn leave(aliases: &[Alias], messages: &[Message], queues: &mut Vec<Qu
             leave_queue(queues, direction_of(aliases, &message.content), number);
         }
     }
+}
+
+/// The last message, whose number this is, ends no queue any more.
+pub(crate) fn forget(aliases: &[Alias], messages: &[Message], queues: &mut Vec<Queue>, number: u64)
+    requires few { length aliases.now ≤ 32 }
+    requires directions { length queues.old.items ≡ (length aliases.now + 2) * 34 }
+    ensures { queues.new.items ≡ forgotten_by aliases.now queues.old.items (numbered messages.now number) }
+{
+    if let Some(message) = message_at(messages, number) {
+        if is_on_its_way(message) {
+            forget_last(queues, direction_of(aliases, &message.content));
+        }
+    }
+}
+
+fn pop_number(numbers: &mut Items<u64>)
+    ensures { numbers.new ≡ without_last numbers.old }
+{
+    let kept = numbers.len().saturating_sub(1);
+    numbers.truncate(kept);
+}
+
+fn pop_answer(answers: &mut [Items<u64>], call: u64)
+    ensures { answers.new ≡ changed_at answers.old call without_last }
+{
+    if let Some(at) = index_of(answers.len(), call) {
+        pop_number(&mut answers[at]);
+    }
+}
+
+/// The message of this number answers nothing any more.
+fn forget_answer(messages: &[Message], answers: &mut [Items<u64>], number: u64)
+    ensures { answers.new ≡ unanswered_by answers.old (numbered messages.now number) }
+{
+    if let Some(message) = message_at(messages, number) {
+        pop_answer(answers, asked_by(&message.content));
+    }
+}
+
+/// The last list is gone.
+fn drop_list(answers: &mut Vec<Items<u64>>)
+    ensures { answers.new.items ≡ take (length answers.old.items - 1) answers.old.items }
+{
+    let kept = answers.len().saturating_sub(1);
+    answers.truncate(kept);
+}
+
+/// The last message, whose number this is, answers nothing any more, and has no list.
+pub(crate) fn forget_answers(messages: &[Message], answers: &mut Vec<Items<u64>>, number: u64)
+    ensures { answers.new.items ≡ take (length answers.old.items - 1) (unanswered_by answers.old.items (numbered messages.now number)) }
+{
+    forget_answer(messages, answers.as_mut_slice(), number);
+    drop_list(answers);
 }

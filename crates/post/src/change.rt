@@ -1,10 +1,10 @@
-ghost use Rattle.std.specs.Prelude.{◌≡◌, ◌<◌, ◌+◌, ◌∷◌, ◌++◌, ◌⊎◌, [], vec_len, vec_capacity, MatchOption};
+ghost use Rattle.std.specs.Prelude.{◌≡◌, ◌<◌, ◌+◌, ◌∷◌, ◌++◌, ◌⊎◌, [], ◌-◌, length, take, vec_len, vec_capacity, MatchOption};
 ghost use Rattle.std.specs.Option.{option_copied};
 ghost use Rattle.shard_calls.specs.World.{numbered, changed_at, arrives, vanishes, settles};
 ghost use Rattle.post.specs.Waiting.{is_on_its_way};
-ghost use Rattle.post.specs.Posted.{sent_at};
+ghost use Rattle.post.specs.Posted.{sent_at, answers_now};
 
-use shard_calls::{Content, Message, Settled};
+use shard_calls::{Answer, Content, Message, Settled};
 
 /// The message of a number.
 pub(crate) fn message_at(messages: &[Message], number: u64) -> Option<&Message>
@@ -87,4 +87,31 @@ pub(crate) fn settle_at(messages: &mut Vec<Message>, number: u64, settled: Settl
     if let Some(at) = index_of(messages.len(), number) {
         settle_one(&mut messages[at], settled);
     }
+}
+
+fn answer_one(message: &mut Message, answer: Answer)
+    ensures { message.new ≡ answers_now answer message.old }
+{
+    match &mut message.content {
+        Content::Asks { .. } => {}
+        Content::Answers { answer: said, .. } => *said = answer,
+        Content::Feeds { .. } => {}
+        Content::Acks { .. } => {}
+    }
+}
+
+pub(crate) fn answer_at(messages: &mut Vec<Message>, number: u64, answer: Answer)
+    ensures { messages.new.items ≡ changed_at messages.old.items number (answers_now answer) }
+{
+    if let Some(at) = index_of(messages.len(), number) {
+        answer_one(&mut messages[at], answer);
+    }
+}
+
+/// The last message is gone.
+pub(crate) fn drop_last(messages: &mut Vec<Message>)
+    ensures { messages.new.items ≡ take (length messages.old.items - 1) messages.old.items }
+{
+    let kept = messages.len().saturating_sub(1);
+    messages.truncate(kept);
 }

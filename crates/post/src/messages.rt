@@ -3,14 +3,16 @@ ghost use Rattle.std.specs.Option.{option_copied};
 ghost use Rattle.shard_calls.specs.World.{numbered, arrives, vanishes, settles};
 ghost use Rattle.post.specs.Directions.{place_of, IsPlace};
 ghost use Rattle.post.specs.Waiting.{waiting_on, answers_on};
-ghost use Rattle.post.specs.Posted.{with_sent, on_number, answers_what_was_sent};
+ghost use Rattle.post.specs.Posted.{with_sent, without_sent, on_number, answers_now, answers_what_was_sent};
 
-use crate::beside::{add, leave, queues_of};
-use crate::change::{arrive_at, index_of, lose_at, message_at, sent_at, settle_at};
+use crate::beside::{add, forget, forget_answers, leave, queues_of};
+use crate::change::{
+    answer_at, arrive_at, drop_last, index_of, lose_at, message_at, sent_at, settle_at,
+};
 use crate::direction::{asked_by, count_of, direction, direction_of, place_of};
 use crate::queue::Queue;
 use shard_base::{Items, OutOfMemory};
-use shard_calls::{Content, Message, Settled};
+use shard_calls::{Answer, Content, Message, Settled};
 use shard_names::{Alias, Tablet};
 use std::alloc::Global;
 use std::marker::Model;
@@ -128,6 +130,7 @@ impl Post {
         requires { answers_what_was_sent self.old.messages content ≡ true }
         ensures number { IfOk result (λ number. number ≡ length self.old.messages + 1) }
         ensures ok { OnOk result (self.new ≡ with_sent self.old now content) }
+        ensures unanswered { OnOk result (answers_on self.new.messages (length self.new.messages) ≡ []) }
         ensures err { OnErr result (self.new ≡ self.old) }
     {
         let at = direction_of(self.aliases.as_slice(), &content);
@@ -166,5 +169,23 @@ impl Post {
         ensures { self.new ≡ on_number self.old number (settles settled) }
     {
         settle_at(&mut self.messages, number, settled);
+    }
+
+    /// The answer that the message of a number carries, if it carries one, is this. It takes no memory, and costs a few steps.
+    pub fn amend(&mut self, number: u64, answer: Answer)
+        ensures { self.new ≡ on_number self.old number (answers_now answer) }
+    {
+        answer_at(&mut self.messages, number, answer);
+    }
+
+    /// Takes back what was sent last, which nothing answers. It takes no memory, and costs a few steps.
+    pub fn take_back(&mut self)
+        requires { answers_on self.old.messages (length self.old.messages) ≡ [] }
+        ensures { self.new ≡ without_sent self.old }
+    {
+        let number = self.messages.len() as u64;
+        forget(&self.aliases, &self.messages, &mut self.queues, number);
+        forget_answers(&self.messages, &mut self.answers, number);
+        drop_last(&mut self.messages);
     }
 }

@@ -1,17 +1,3 @@
-pub mod PlaceLemmas
-pub mod CountLemmas
-pub mod WriteLemmas
-pub mod ActLemmas
-pub mod FewLemmas
 pub mod RoomLemmas
 pub mod RunLemmas
 pub mod OpeningLemmas
-pub mod ReplyLemmas
-pub mod PromotionLemmas
-pub mod ListLemmas
-pub mod MoveLemmas
-pub mod IntentLemmas
-pub mod ToldLemmas
-pub mod KnownLemmas
-pub mod CauseLemmas
-pub mod SafeLemmas

@@ -1,14 +1,28 @@
 -- Runs that go on by one step.
-use Rattle.std.proofs.Common.{◌≡◌, ℕ, ◌+◌, ◌<◌, List, [], ◌∷◌, ◌++◌, true, Option, Some, None, length, refl, ap, sym, subst, ◌∙◌, arith, length-append}
-use Rattle.shard_names.specs.declared.alias.Alias.{Alias}
-use Rattle.shard_core.specs.declared.event.Event.{Event}
-use Rattle.shard_core.specs.declared.event.Event.TheVariants as events
-use Rattle.shard_core.specs.declared.event.Step.{Step}
-use Rattle.shard_core.specs.declared.world.CommandState.{CommandState}
-use Rattle.shard_core.specs.World.{Config, IsConfig, World, opening, open_command, term_of}
-use Rattle.shard_core.specs.Table.{meets, answer, change, change_by, after, step_of, world_after, by_term, promotes, takes_by, writes_by_state, ends_by, IsStep, IsRunFrom, IsRun}
-use Rattle.shard_core.specs.Places.{Data, config_in, world_seen, seen, Follows, Leads, AreFew}
-use Rattle.shard_core.proofs.FewLemmas.{IsFew, few_of}
+use Rattle.std.proofs.Common.{◌≡◌, ℕ, ◌+◌, ◌<◌, ◌≤◌, List, [], ◌∷◌, ◌++◌, true, length, refl, ap, sym, subst, ◌∙◌, arith, length-append, zero, suc, Some, None, IsTrue, nat_lt}
+use Rattle.std.specs.List.{list_all}
+use Rattle.shard_names.proofs.TabletLemmas.{both}
+use Rattle.shard_calls.specs.declared.event.Event.{Event}
+use Rattle.shard_calls.specs.declared.event.Reply.{Reply}
+use Rattle.shard_calls.specs.declared.event.Step.{Step}
+use Rattle.shard_calls.specs.declared.post.Content.{Content}
+use Rattle.shard_calls.specs.declared.post.Content.TheVariants as contents
+use Rattle.shard_calls.specs.declared.post.Message.{Message}
+use Rattle.shard_calls.specs.declared.state.ActorState.{ActorState}
+use Rattle.shard_calls.specs.World.{Config, IsConfig, World, opening, numbered}
+use Rattle.shard_calls.specs.Table.{meets, answer, change, after, step_of, world_after, IsStep, IsRunFrom, IsRun}
+use Rattle.shard_state.specs.State.{Data, config_in, world_seen, seen}
+use Rattle.arrivals.specs.Addressed.{is_addressed, AreAddressed}
+use Rattle.arrivals.specs.Arrivals.{next_offered}
+use Rattle.changes.specs.Few.{HaveFewWrites, IsFewContent, AreFew}
+use Rattle.changes.specs.Sound.{IsSoundContent, AreSound}
+use Rattle.changes.specs.Laws.{with_past}
+use Rattle.changes.specs.Makes.{Makes}
+use Rattle.changes.proofs.PastLaws.{reads_no_past}
+use Rattle.changes.proofs.FewLaws.{few_after}
+use Rattle.changes.proofs.SoundLaws.{sound_after, fits_after}
+use Rattle.shard_core.specs.Kept.{Kept, kept_of, world_of}
+use Rattle.shard_core.specs.Leads.{Leads}
 
 -- ---- one more step
 
@@ -22,117 +36,114 @@ run-push config w (x ∷ ss) s h step = (h.0, run-push config (after config w x.
 
 -- ---- no row reads what is past
 
-pub same_met : (config : Config) (w : Data) (ss : List Step) (e : Event) → meets config (world_seen w ss) e ≡ meets config (seen w) e
-same_met config w ss (events.Begin name command) = refl
-same_met config w ss (events.Take c) = refl
-same_met config w ss (events.Read c) = refl
-same_met config w ss (events.Intend c a) = refl
-same_met config w ss (events.Promote c a) = refl
-same_met config w ss (events.Record c a) = refl
-same_met config w ss (events.Release c) = refl
-same_met config w ss events.Lapse = refl
-same_met config w ss (events.Write c a) = refl
-same_met config w ss (events.Tick ms) = refl
-same_met config w ss (events.End c x) = refl
+pub same_met : (config : Config) (d : Data) (ss : List Step) (e : Event) → meets config (world_seen d ss) e ≡ meets config (seen d) e
+same_met config d ss e = reads_no_past.meets config (seen d) ss e
 
-pub same_answer : (config : Config) (w : Data) (ss : List Step) (e : Event) → answer config (world_seen w ss) e ≡ answer config (seen w) e
-same_answer config w ss (events.Begin name command) = refl
-same_answer config w ss (events.Take c) = refl
-same_answer config w ss (events.Read c) = refl
-same_answer config w ss (events.Intend c a) = refl
-same_answer config w ss (events.Promote c a) = refl
-same_answer config w ss (events.Record c a) = refl
-same_answer config w ss (events.Release c) = refl
-same_answer config w ss events.Lapse = refl
-same_answer config w ss (events.Write c a) = refl
-same_answer config w ss (events.Tick ms) = refl
-same_answer config w ss (events.End c x) = refl
+pub same_answer : (config : Config) (d : Data) (ss : List Step) (e : Event) → answer config (world_seen d ss) e ≡ answer config (seen d) e
+same_answer config d ss e = reads_no_past.answer config (seen d) ss e
 
-abbrev with_past : World → List Step → World
-with_past w ss = record w { past = ss }
+same_step : (config : Config) (d : Data) (ss : List Step) (e : Event) → step_of config (world_seen d ss) e ≡ step_of config (seen d) e
+same_step config d ss e = λ i. record { event = e; reply = same_answer config d ss e i }
 
-take_past : (w : Data) (ss ts : List Step) (c : ℕ) (step : Step) (s : Option CommandState)
-    → with_past (takes_by (seen w) c step s) ts ≡ with_past (takes_by (world_seen w ss) c step s) ts
-take_past w ss ts c step None = refl
-take_past w ss ts c step (Some s) = refl
+same_change : (config : Config) (d : Data) (ss ts : List Step) (e : Event)
+    → with_past (change config (world_seen d ss) e) ts ≡ with_past (change config (seen d) e) ts
+same_change config d ss ts e = reads_no_past.change config (seen d) ss ts e
 
-promote_past : (config : Config) (w : Data) (ss ts : List Step) (c : ℕ) (a : Alias) (step : Step) (o : Option ℕ)
-    → with_past (by_term o (seen w) (promotes config (seen w) c a step)) ts ≡ with_past (by_term o (world_seen w ss) (promotes config (world_seen w ss) c a step)) ts
-promote_past config w ss ts c a step None = refl
-promote_past config w ss ts c a step (Some t) = refl
+-- ---- in the world to which the steps have led
 
-write_past : (config : Config) (w : Data) (ss ts : List Step) (c : ℕ) (a : Alias) (step : Step) (s : Option CommandState)
-    → with_past (writes_by_state config (seen w) c a step s) ts ≡ with_past (writes_by_state config (world_seen w ss) c a step s) ts
-write_past config w ss ts c a step None = refl
-write_past config w ss ts c a step (Some s) = refl
+pub met_there : (d : Data) (ss : List Step) (e : Event) → Leads d ss → meets (config_in d) (world_after (config_in d) (opening (config_in d)) ss) e ≡ meets (config_in d) (seen d) e
+met_there d ss e h = ap (λ (w : World). meets (config_in d) w e) (sym h.world) ∙ same_met (config_in d) d ss e
 
-end_past : (w : Data) (ss ts : List Step) (c : ℕ) (s : Option CommandState) → with_past (ends_by (seen w) c s) ts ≡ with_past (ends_by (world_seen w ss) c s) ts
-end_past w ss ts c None = refl
-end_past w ss ts c (Some s) = refl
+pub answer_there : (d : Data) (ss : List Step) (e : Event) → Leads d ss → answer (config_in d) (world_after (config_in d) (opening (config_in d)) ss) e ≡ answer (config_in d) (seen d) e
+answer_there d ss e h = ap (λ (w : World). answer (config_in d) w e) (sym h.world) ∙ same_answer (config_in d) d ss e
 
-past_by : (config : Config) (w : Data) (ss ts : List Step) (step : Step) (e : Event)
-    → with_past (change_by config (seen w) step e) ts ≡ with_past (change_by config (world_seen w ss) step e) ts
-past_by config w ss ts step (events.Begin name command) = refl
-past_by config w ss ts step (events.Take c) = take_past w ss ts c step (open_command (seen w) c)
-past_by config w ss ts step (events.Read c) = refl
-past_by config w ss ts step (events.Intend c a) = refl
-past_by config w ss ts step (events.Promote c a) = promote_past config w ss ts c a step (term_of (seen w) c)
-past_by config w ss ts step (events.Record c a) = refl
-past_by config w ss ts step (events.Release c) = refl
-past_by config w ss ts step events.Lapse = refl
-past_by config w ss ts step (events.Write c a) = write_past config w ss ts c a step (open_command (seen w) c)
-past_by config w ss ts step (events.Tick ms) = refl
-past_by config w ss ts step (events.End c x) = end_past w ss ts c (open_command (seen w) c)
+pub offered_there : (d : Data) (ss : List Step) → Leads d ss
+    → next_offered (config_in d) (world_after (config_in d) (opening (config_in d)) ss) ≡ next_offered (config_in d) (seen d)
+offered_there d ss h = ap (λ (w : World). next_offered (config_in d) w) (sym h.world)
 
-same_step : (config : Config) (w : Data) (ss : List Step) (e : Event) → step_of config (world_seen w ss) e ≡ step_of config (seen w) e
-same_step config w ss e = λ i. record { event = e; reply = same_answer config w ss e i }
+-- as it is seen
+pub offered_is : (d : Data) (ss : List Step) (k : Kept) → kept_of d ss ≡ k → Leads d ss → next_offered k.config (world_of k) ≡ next_offered (config_in d) (seen d)
+offered_is d ss k is h = ap (λ (x : Kept). next_offered x.config (world_of x)) (sym is) ∙ offered_there d ss h
 
-same_change : (config : Config) (w : Data) (ss ts : List Step) (e : Event)
-    → with_past (change config (seen w) e) ts ≡ with_past (change config (world_seen w ss) e) ts
-same_change config w ss ts e =
-    past_by config w ss ts (step_of config (seen w) e) e
-    ∙ ap (λ (s : Step). with_past (change_by config (world_seen w ss) s e) ts) (sym (same_step config w ss e))
+pub met_is : (d : Data) (ss : List Step) (k : Kept) (e : Event) → kept_of d ss ≡ k → meets k.config (world_of k) e ≡ meets (config_in d) (world_of (kept_of d ss)) e
+met_is d ss k e is = ap (λ (x : Kept). meets x.config (world_of x) e) (sym is)
+
+-- ---- numbers are as few among more, and messages are between declared tablets
+
+writes_more : (n m : ℕ) (us : List ActorState) → n ≤ m → HaveFewWrites n us → HaveFewWrites m us
+writes_more n m [] le h = tt
+writes_more n m (a ∷ us) le h = (omega (arith, le, h.0), writes_more n m us le h.1)
+
+content_more : (n m : ℕ) (c : Content) → n ≤ m → IsFewContent n c → IsFewContent m c
+content_more n m (contents.Asks command term to call) le h = tt
+content_more n m (contents.Answers command asked from says) le h = tt
+content_more n m (contents.Feeds from to term before index e) le h = (omega (arith, le, h.0), omega (arith, le, h.1))
+content_more n m (contents.Acks from to term index) le h = omega (arith, le, h)
+
+pub few_more : (n m : ℕ) (w : World) → n ≤ m → AreFew n w → AreFew m w
+few_more n m w le h = record {
+  term = omega (arith, le, h.term);
+  actors = omega (arith, le, h.actors);
+  commands = omega (arith, le, h.commands);
+  writes = writes_more n m w.actors le h.writes;
+  logs = λ a. record { entries = omega (arith, le, (h.logs a).entries); numbers = λ k e here. omega (arith, le, (h.logs a).numbers k e here) };
+  contents = λ k c here. content_more n m c.content le (h.contents k c here);
+}
+
+addressed_content : (config : Config) (c : Content) → IsSoundContent config c → is_addressed config.tablets c ≡ true
+addressed_content config (contents.Asks command term to call) h = h.0
+addressed_content config (contents.Answers command asked from says) h = h
+addressed_content config (contents.Feeds from to term before index e) h = both _ _ h.0 h.1
+addressed_content config (contents.Acks from to term index) h = both _ _ h.0 h.1
+
+addressed_all : (config : Config) (ms : List Message) → ((k : ℕ) (m : Message) → numbered ms k ≡ Some m → IsSoundContent config m.content)
+    → list_all (λ m. is_addressed config.tablets m.content) ms ≡ true
+addressed_all config [] h = refl
+addressed_all config (m ∷ ms) h =
+    both _ _ (addressed_content config m.content (h 1 m refl)) (addressed_all config ms later)
+  where
+    later : (k : ℕ) (x : Message) → numbered ms k ≡ Some x → IsSoundContent config x.content
+    later zero x here = absurd (let none : None ≡ Some x = here in cc)
+    later (suc k) x here = h (suc (suc k)) x here
+
+pub addressed : (d : Data) → AreSound (config_in d) (seen d) → AreAddressed d
+addressed d h = addressed_all (config_in d) d.messages h.post
 
 -- ---- the fields lead on
 
-world_on : (w v : Data) (ss ts : List Step) (e : Event) → Leads w ss → Follows w v e → ts ≡ ss ++ step_of (config_in w) (seen w) e ∷ []
-    → world_seen v ts ≡ world_after (config_in w) (opening (config_in w)) ts
-world_on w v ss ts e h f more =
-    let config : Config = config_in w in
-    let s : Step = step_of config (seen w) e in
-    let changed : world_seen v ts ≡ with_past (change config (seen w) e) ts = ap (λ (x : World). with_past x ts) f.world in
-    let past : ts ≡ ss ++ step_of config (world_seen w ss) e ∷ [] = more ∙ ap (λ (x : Step). ss ++ x ∷ []) (sym (same_step config w ss e)) in
-    let stepped : world_seen v ts ≡ after config (world_seen w ss) e =
-    changed ∙ same_change config w ss ts e ∙ ap (λ (xs : List Step). with_past (change config (world_seen w ss) e) xs) past in
+world_on : (d v : Data) (ss ts : List Step) (e : Event) (reply : Reply) → Leads d ss → Makes d v e reply → ts ≡ ss ++ step_of (config_in d) (seen d) e ∷ []
+    → world_seen v ts ≡ world_after (config_in d) (opening (config_in d)) ts
+world_on d v ss ts e reply h f more =
+    let config : Config = config_in d in
+    let s : Step = step_of config (seen d) e in
+    let changed : world_seen v ts ≡ with_past (change config (seen d) e) ts = ap (λ (x : World). with_past x ts) f.world in
+    let past : ts ≡ ss ++ step_of config (world_seen d ss) e ∷ [] = more ∙ ap (λ (x : Step). ss ++ x ∷ []) (sym (same_step config d ss e)) in
+    let stepped : world_seen v ts ≡ after config (world_seen d ss) e =
+    changed ∙ sym (same_change config d ss ts e) ∙ ap (λ (xs : List Step). with_past (change config (world_seen d ss) e) xs) past in
     stepped ∙ ap (λ (x : World). after config x e) h.world ∙ sym (world_after-push config (opening config) ss s)
     ∙ ap (λ (xs : List Step). world_after config (opening config) xs) (sym more)
 
-pub step_is : (w : Data) (ss : List Step) (e : Event) → Leads w ss → meets (config_in w) (seen w) e ≡ true
-    → IsStep (config_in w) (world_after (config_in w) (opening (config_in w)) ss) (step_of (config_in w) (seen w) e)
-step_is w ss e h met =
-    let config : Config = config_in w in
-    subst (λ (x : World). IsStep config x (step_of config (seen w) e)) h.world
-    (record { met = same_met config w ss e ∙ met; answered = sym (same_answer config w ss e) })
+pub step_is : (d : Data) (ss : List Step) (e : Event) → Leads d ss → meets (config_in d) (seen d) e ≡ true
+    → IsStep (config_in d) (world_after (config_in d) (opening (config_in d)) ss) (step_of (config_in d) (seen d) e)
+step_is d ss e h met = record { met = met_there d ss e h ∙ met; answered = sym (answer_there d ss e h) }
 
-few_on : (n : ℕ) (w v : Data) (e : Event) → AreFew n w → Follows w v e → AreFew (n + 1) v
-few_on n w v e h f =
-    let old : IsFew n (seen w) = record { term = h.term; actors = h.actors; commands = h.commands; writes = h.writes } in
-    let new : IsFew (n + 1) (seen v) = subst (λ (x : World). IsFew (n + 1) x) (sym f.world) (few_of n (config_in w) (seen w) (step_of (config_in w) (seen w) e) e old) in
-    record { term = new.term; actors = new.actors; commands = new.commands; writes = new.writes }
-
-pub leads_on : (w v : Data) (ss ts : List Step) (e : Event) → Leads w ss → length ss < 1000000 → meets (config_in w) (seen w) e ≡ true
-    → Follows w v e → ts ≡ ss ++ step_of (config_in w) (seen w) e ∷ [] → Leads v ts
-leads_on w v ss ts e h room met f more =
-    let config : Config = config_in w in
-    let s : Step = step_of config (seen w) e in
+pub leads_on : (d v : Data) (ss ts : List Step) (e : Event) (reply : Reply) → Leads d ss → length ss < 1000000 → meets (config_in d) (seen d) e ≡ true
+    → Makes d v e reply → ts ≡ ss ++ step_of (config_in d) (seen d) e ∷ [] → Leads v ts
+leads_on d v ss ts e reply h room met f more =
+    let config : Config = config_in d in
+    let s : Step = step_of config (seen d) e in
     let same : config_in v ≡ config = f.config in
     let size : length ts ≡ length ss + 1 = omega (arith, ap length more, length-append ss (s ∷ [])) in
     record {
       config = subst (λ (x : Config). IsConfig x) (sym same) h.config;
+      begins = subst (λ (x : Config). IsTrue (nat_lt x.moment 253370764800000)) (sym same) h.begins;
       run = subst (λ (x : Config). IsRun x ts) (sym same)
-          (subst (λ (xs : List Step). IsRun config xs) (sym more) (run-push config (opening config) ss s h.run (step_is w ss e h met)));
-      world = world_on w v ss ts e h f more ∙ ap (λ (x : Config). world_after x (opening x) ts) (sym same);
-      few = rw size (few_on (length ss) w v e h.few f);
-      counted = rw size (f.counted (length ss) h.counted);
-      room = omega (arith, size);
+          (subst (λ (xs : List Step). IsRun config xs) (sym more) (run-push config (opening config) ss s h.run (step_is d ss e h met)));
+      world = world_on d v ss ts e reply h f more ∙ ap (λ (x : Config). world_after x (opening x) ts) (sym same);
+      few = subst (λ (n : ℕ). AreFew n (seen v)) (sym size)
+          (subst (λ (x : World). AreFew (length ss + 1) x) (sym f.world) (few_after (length ss) config (seen d) e h.sound h.few));
+      sound = subst (λ (x : Config). AreSound x (seen v)) (sym same)
+          (subst (λ (x : World). AreSound config x) (sym f.world) (sound_after config (seen d) e met h.sound));
+      fits = fits_after d v e reply f h.fits;
+      room = omega (arith, size, room);
     }

@@ -1,10 +1,5 @@
-pub mod Logs
-pub mod World
+pub mod Opened
 pub mod Room
-pub mod Causes
-pub mod Table
-pub mod Promotions
-pub mod Answered
 pub mod Kept
-pub mod Places
+pub mod Leads
 pub mod Stands

@@ -1,13 +1,9 @@
 -- The steps that open commands still owe, for which the history keeps room: so a command can always free the lock and end.
-use Rattle.std.specs.Prelude.{ℕ, ◌+◌, ◌-◌, Bool, true, false, not, ◌&&◌, List, [], ◌∷◌, Option, Some, None, is_some, if◌then◌else◌}
-use Rattle.shard_core.specs.World.{World, open_command}
-use Rattle.shard_core.specs.declared.event.Event.{Event}
-use Rattle.shard_core.specs.declared.event.Event.TheVariants as events
-use Rattle.shard_core.specs.declared.world.CommandState.{CommandState}
-
--- the command took the lock, and has made no Release
-abbrev pub owes_release : CommandState → Bool
-owes_release s = is_some s.term && not s.released
+use Rattle.std.specs.Prelude.{ℕ, ◌+◌, ◌-◌, Bool, true, false, not, List, [], ◌∷◌, Option, Some, None, if◌then◌else◌}
+use Rattle.shard_calls.specs.World.{World, open_command}
+use Rattle.shard_calls.specs.declared.event.Event.{Event}
+use Rattle.shard_calls.specs.declared.event.Event.TheVariants as events
+use Rattle.shard_calls.specs.declared.state.CommandState.{CommandState}
 
 -- an open command owes its End, and before it its Release
 abbrev pub debt : CommandState → ℕ
@@ -27,11 +23,21 @@ has_room_kept w (events.Begin name command) = false
 has_room_kept w (events.Take c) = false
 has_room_kept w (events.Read c) = false
 has_room_kept w (events.Intend c a) = false
-has_room_kept w (events.Promote c a) = false
 has_room_kept w (events.Record c a) = false
 has_room_kept w (events.Release c) = is_unreleased (open_command w c)
 has_room_kept w events.Lapse = false
+has_room_kept w (events.Send c a call) = false
+has_room_kept w (events.Deliver k) = false
+has_room_kept w (events.GiveUp c k) = false
+has_room_kept w (events.Offer r) = false
 has_room_kept w (events.Write c a) = false
+has_room_kept w (events.Tell c) = false
+has_room_kept w (events.Local a) = false
+has_room_kept w (events.Crash a keep) = false
+has_room_kept w (events.Restart a) = false
+has_room_kept w (events.Cut x y) = false
+has_room_kept w (events.Mend x y) = false
+has_room_kept w (events.Lose k) = false
 has_room_kept w (events.Tick ms) = false
 has_room_kept w (events.End c x) = true
 
@@ -49,10 +55,20 @@ owed_after w n (events.Begin name command) = n + 2
 owed_after w n (events.Take c) = n
 owed_after w n (events.Read c) = n
 owed_after w n (events.Intend c a) = n
-owed_after w n (events.Promote c a) = n
 owed_after w n (events.Record c a) = n
 owed_after w n (events.Release c) = owed_released n (is_unreleased (open_command w c))
 owed_after w n events.Lapse = n
+owed_after w n (events.Send c a call) = n
+owed_after w n (events.Deliver k) = n
+owed_after w n (events.GiveUp c k) = n
+owed_after w n (events.Offer r) = n
 owed_after w n (events.Write c a) = n
+owed_after w n (events.Tell c) = n
+owed_after w n (events.Local a) = n
+owed_after w n (events.Crash a keep) = n
+owed_after w n (events.Restart a) = n
+owed_after w n (events.Cut x y) = n
+owed_after w n (events.Mend x y) = n
+owed_after w n (events.Lose k) = n
 owed_after w n (events.Tick ms) = n
 owed_after w n (events.End c x) = owed_less n (open_command w c)

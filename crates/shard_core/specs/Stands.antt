@@ -1,6 +1,7 @@
 -- What a `Shard` keeps: fields to which its history has led, and room in the history for what open commands owe.
 use Rattle.std.specs.Prelude.{◌≡◌, ◌≤◌, ◌+◌, vec_len, vec_capacity}
-use Rattle.shard_core.specs.Places.{data_of, Leads}
+use Rattle.shard_state.specs.State.{data_of}
+use Rattle.shard_core.specs.Leads.{Leads}
 use Rattle.shard_core.specs.Room.{owed_of}
 use Rattle.shard_core.specs.declared.shard.Shard.TheInside.{Inside}
 

@@ -1,11 +1,10 @@
 ghost use Rattle.std.specs.Prelude.{◌≡◌, ◌+◌, ◌-◌, ◌<◌, ◌≤◌, ◌^◌};
-ghost use Rattle.shard_core.specs.World.{numbered, if_open};
+ghost use Rattle.shard_calls.specs.World.{numbered, if_open};
+ghost use Rattle.shard_state.specs.State.{data_of, seen};
 ghost use Rattle.shard_core.specs.Room.{debt, is_unreleased, owed_less, owed_released, owed_after};
-ghost use Rattle.shard_core.specs.Places.{data_of, seen};
 
-use crate::Event;
-use crate::commands::open_command;
-use crate::world::{CommandState, Fields};
+use shard_calls::{CommandState, Event};
+use shard_state::{Fields, open_command};
 
 /// The steps that the command still owes: its End, and before it its Release.
 fn debt(state: &CommandState) -> u64
@@ -59,14 +58,24 @@ pub(crate) fn owed_after(fields: &Fields, owed: u64, event: &Event) -> u64
         Event::Take { .. } => owed,
         Event::Read { .. } => owed,
         Event::Intend { .. } => owed,
-        Event::Promote { .. } => owed,
         Event::Record { .. } => owed,
         Event::Release { command } => owed_released(
             owed,
             is_unreleased(&fields.commands, *command),
         ),
         Event::Lapse => owed,
+        Event::Send { .. } => owed,
+        Event::Deliver { .. } => owed,
+        Event::GiveUp { .. } => owed,
+        Event::Offer { .. } => owed,
         Event::Write { .. } => owed,
+        Event::Tell { .. } => owed,
+        Event::Local { .. } => owed,
+        Event::Crash { .. } => owed,
+        Event::Restart { .. } => owed,
+        Event::Cut { .. } => owed,
+        Event::Mend { .. } => owed,
+        Event::Lose { .. } => owed,
         Event::Tick { .. } => owed,
         Event::End { command, .. } => owed_less(&fields.commands, *command, owed),
     }

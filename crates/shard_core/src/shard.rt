@@ -1,21 +1,27 @@
-ghost use Rattle.std.specs.Prelude.{◌≡◌, ◌<◌, ◌≤◌, ◌↔◌, ◌++◌, ◌∷◌, ◌+◌, ◌-◌, ◌^◌, [], ℕ, true, false, length, IfOk, IsOk, OnOk, OnErr, IsErrOf, map, Some, None, vec_len, vec_capacity};
+ghost use Rattle.std.specs.Prelude.{◌≡◌, ◌<◌, ◌≤◌, ◌↔◌, ◌++◌, ◌∷◌, ◌+◌, ◌-◌, ◌^◌, [], ℕ, true, false, length, nat_lt, IsTrue, IfOk, IsOk, OnOk, OnErr, IsErrOf, MatchOption, Some, None, vec_len, vec_capacity};
 ghost use Rattle.std.specs.Option.{option_copied};
 ghost use Rattle.shard_names.specs.Tablets.{AreTablets, tablet_of};
-ghost use Rattle.shard_core.specs.World.{Config, opening, idle_actor, main_name, open_of, open_command};
-ghost use Rattle.shard_core.specs.Room.{owed_of, has_room_kept};
-ghost use Rattle.shard_core.specs.Table.{Met, meets, answer, row_number, step_of};
-ghost use Rattle.shard_core.specs.Places.{Data, data_of, seen, config_in, Leads, Becomes, world_seen, opened, AreFew, AreCounted};
+ghost use Rattle.shard_calls.specs.World.{open_of, open_command};
+ghost use Rattle.shard_calls.specs.Table.{Met, meets, answer, row_number, IsRun};
+ghost use Rattle.shard_calls.specs.Safe.{IsSafe};
+ghost use Rattle.shard_state.specs.State.{Data, data_of, seen, config_in, world_seen};
+ghost use Rattle.arrivals.specs.Arrivals.{next_due, next_offered};
+ghost use Rattle.changes.specs.Makes.{IsFound};
+ghost use Rattle.changes.specs.Makes as rows;
+ghost use Rattle.shard_core.specs.Room.{has_room_kept};
+ghost use Rattle.shard_core.specs.Kept.{Makes, kept_of, world_of};
+ghost use Rattle.shard_core.specs.Leads.{Leads};
 
-use crate::changes::change;
-use crate::commands::{open_command, open_of};
 use crate::conditions::{meets, row_number};
-use crate::places::find_tablet;
-use crate::replies::answer;
+use crate::finding::find;
+use crate::opening::{opened_actors, opened_managers};
 use crate::room::owed_after;
-use crate::world::{ActorState, CommandState, Fields, Place};
-use crate::{Command, CommandAnswer, Event, History, Refusal, Reply, Seen, Step};
-use shard_base::{Items, OutOfMemory};
+use changes::{Found, change};
+use post::Post;
+use shard_base::OutOfMemory;
+use shard_calls::{CommandState, Event, History, Reply, Seen, Standing, Step, Why};
 use shard_names::{Alias, Name, Tablet};
+use shard_state::{Fields, open_command, open_of, tablet_of};
 use std::alloc::Global;
 use std::marker::Model;
 use topo_lock::{Intent, Record, Topo};
@@ -23,8 +29,8 @@ use topo_lock::{Intent, Record, Topo};
 /// Why the machine made no step. It then stands as it was.
 #[derive(Clone, Copy, Debug, PartialEq, Eq)]
 pub enum Refused {
-    /// The condition of the event's row does not hold. Rows count from 1: Begin, Take, Read, Intend, Promote, Record,
-    /// Release, Lapse, Write, Tick, End.
+    /// The condition of the event's row does not hold. Rows count from 1: Begin, Take, Read, Intend, Record, Release, Lapse, Send, Deliver,
+    /// GiveUp, Offer, Write, Tell, Local, Crash, Restart, Cut and Mend, Lose, Tick, End.
     Unmet { row: u8 },
     /// The history has all the steps that it may have.
     Full,
@@ -46,7 +52,7 @@ pub struct Shard {
 // Clauses see the tablets and the steps: all that stands follows from them.
 impl Model for Shard {
     ghost use Rattle.shard_core.specs.Kept.{Kept};
-    ghost use Rattle.shard_core.specs.Places.{data_of, config_in};
+    ghost use Rattle.shard_state.specs.State.{data_of, config_in};
 
     ghost Value = { Kept };
 
@@ -57,37 +63,14 @@ impl Model for Shard {
     ghost invariant = { Stands };
 }
 
-/// The event with the reply of its row.
-fn step_of(fields: &Fields, event: &Event) -> Step
-    requires met { meets (config_in (data_of fields.now)) (seen (data_of fields.now)) event.now ≡ true }
-    requires few { AreFew (2 ^ 20) (data_of fields.now) }
-    requires counted { AreCounted (2 ^ 64 - 2) fields.now.places.items }
-    ensures { result ≡ step_of (config_in (data_of fields.now)) (seen (data_of fields.now)) event.now }
-{
-    // The proof's generator wants each enum inside a step named here.
-    let _command: Option<&Command> = None;
-    let _answer: Option<&CommandAnswer> = None;
-    let _refusal: Option<&Refusal> = None;
-    let event = *event;
-    let reply = answer(fields, &event);
-    Step { event, reply }
-}
-
 /// Appends a step, for which there is room.
-fn push_step(steps: &mut Vec<Step>, step: &Step)
+fn push_step(steps: &mut Vec<Step>, event: Event, reply: &Reply)
     requires room { vec_len steps.old < vec_capacity steps.old }
-    ensures items { steps.new.items ≡ steps.old.items ++ step.now ∷ [] }
+    ensures items { steps.new.items ≡ steps.old.items ++ (record { event = event; reply = reply.now }) ∷ [] }
     ensures len { vec_len steps.new ≡ vec_len steps.old + 1 }
     ensures capacity { vec_capacity steps.new ≡ vec_capacity steps.old }
 {
-    // The proof's generator wants each enum inside a step named here.
-    let _command: Option<&Command> = None;
-    let _answer: Option<&CommandAnswer> = None;
-    let _refusal: Option<&Refusal> = None;
-    let _seen: Option<&Seen> = None;
-    let _record: Option<&Record> = None;
-    let _intent: Option<&Intent> = None;
-    let Step { event, reply } = *step;
+    let reply = *reply;
     steps.push_reserved(Step { event, reply });
 }
 
@@ -96,85 +79,108 @@ fn make(
     fields: &mut Fields,
     steps: &mut Vec<Step>,
     owed: u64,
-    event: &Event,
+    event: Event,
+    found: Found,
 ) -> Result<Reply, OutOfMemory>
     requires leads { Leads (data_of fields.old) steps.old.items }
     requires few { length steps.old.items < 1000000 }
-    requires met { meets (config_in (data_of fields.old)) (seen (data_of fields.old)) event.now ≡ true }
+    requires met { Met (config_in (data_of fields.old)) (world_of (kept_of (data_of fields.old) steps.old.items)) event }
+    requires found { IsFound (seen (data_of fields.old)) event found }
     requires owed { owed < 2 ^ 32 }
     ensures leads { OnOk result (Leads (data_of fields.new) steps.new.items) }
-    ensures step { OnOk result (steps.new.items ≡ steps.old.items ++ step_of (config_in (data_of fields.old)) (seen (data_of fields.old)) event.now ∷ []) }
-    ensures becomes { OnOk result (Becomes (data_of fields.old) (data_of fields.new) (step_of (config_in (data_of fields.old)) (seen (data_of fields.old)) event.now) event.now) }
-    ensures reply { IfOk result (λ reply. reply ≡ answer (config_in (data_of fields.old)) (seen (data_of fields.old)) event.now) }
+    ensures step { OnOk result (Makes (kept_of (data_of fields.old) steps.old.items) (kept_of (data_of fields.new) steps.new.items) event) }
+    ensures reply { IfOk result (λ reply. reply ≡ answer (config_in (data_of fields.old)) (world_of (kept_of (data_of fields.old) steps.old.items)) event) }
+    ensures made { IfOk result (λ reply. rows.Makes (data_of fields.old) (data_of fields.new) event reply) }
     ensures room { OnOk result (vec_len steps.new + owed ≤ vec_capacity steps.new) }
     ensures same_steps { OnErr result (steps.new.items ≡ steps.old.items) }
     ensures same_fields { OnErr result (data_of fields.new ≡ data_of fields.old) }
     ensures same_len { OnErr result (vec_len steps.new ≡ vec_len steps.old) }
     ensures no_less { OnErr result (vec_capacity steps.old ≤ vec_capacity steps.new) }
-    ensures kept { has_room_kept (seen (data_of fields.old)) event.now ≡ true → vec_len steps.old + owed + 1 ≤ vec_capacity steps.old → IsOk result }
+    ensures kept { has_room_kept (seen (data_of fields.old)) event ≡ true → vec_len steps.old + owed + 1 ≤ vec_capacity steps.old → IsOk result }
 {
+    // The proof's generator wants each enum inside a reply named here.
+    let _seen: Option<&Seen> = None;
+    let _record: Option<&Record> = None;
+    let _intent: Option<&Intent> = None;
+    let _why: Option<&Why> = None;
+    let _standing: Option<&Standing> = None;
     steps.reserve(owed as usize + 1)?;
-    let step = step_of(fields, event);
-    let reply = step.reply;
-    change(fields, event, &step)?;
-    push_step(steps, &step);
+    let mut found = found;
+    let reply = change(fields, &event, &mut found)?;
+    push_step(steps, event, &reply);
     Ok(reply)
 }
 
-/// The tablets with empty logs.
-fn opened_places(alloc: Global, tablets: &[Tablet]) -> Result<Vec<Place>, OutOfMemory>
-    ensures { IfOk result (λ places. places.items ≡ map opened tablets.now) }
+/// Whether the condition of the event's row holds in the world to which the history has led.
+fn is_met(fields: &Fields, history: &History, event: &Event, found: &Found) -> bool
+    requires leads { Leads (data_of fields.now) history.now.steps.items }
+    requires found { IsFound (seen (data_of fields.now)) event.now found.now }
+    ensures { result ≡ meets (config_in (data_of fields.now)) (world_of (kept_of (data_of fields.now) history.now.steps.items)) event.now }
 {
-    let mut places = Vec::new(alloc);
-    for tablet in tablets {
-        places.push(Place {
-            tablet: *tablet,
-            log: Items::new(alloc),
-            greatest: 0,
-        })?;
-    }
-    Ok(places)
+    let _past = history;
+    meets(fields, event, found)
 }
 
-/// The actor who needs no name.
-const MAIN: &[u8] = b"main";
-
-/// The actors before anybody has given a command.
-fn opened_actors(alloc: Global) -> Result<Vec<ActorState>, OutOfMemory>
-    ensures { IfOk result (λ actors. actors.items ≡ idle_actor main_name ∷ []) }
+/// What the row of the event goes by, if its condition holds.
+fn look(fields: &Fields, history: &History, event: &Event) -> Option<Found>
+    requires leads { Leads (data_of fields.now) history.now.steps.items }
+    ensures { MatchOption result (meets (config_in (data_of fields.now)) (world_of (kept_of (data_of fields.now) history.now.steps.items)) event.now ≡ false) (λ found. (meets (config_in (data_of fields.now)) (world_of (kept_of (data_of fields.now) history.now.steps.items)) event.now ≡ true) × IsFound (seen (data_of fields.now)) event.now found) }
 {
-    let mut actors = Vec::new(alloc);
-    match Name::from_slice(MAIN) {
-        Some(name) => actors.push(ActorState {
-            name,
-            pending: None,
-            writes: 0,
-        })?,
-        None => unreachable!(),
+    let found = find(fields, event);
+    if is_met(fields, history, event, &found) {
+        Some(found)
+    } else {
+        None
     }
-    Ok(actors)
+}
+
+/// The same again, if there is room for one more step.
+fn unless_full(history: &History, found: Found) -> Option<Found>
+    ensures { MatchOption result (1000000 ≤ length history.now.steps.items) (λ same. (same ≡ found) × (length history.now.steps.items < 1000000)) }
+{
+    if history.steps.len() >= MOST_STEPS {
+        return None;
+    }
+    Some(found)
+}
+
+fn unmet(event: Event) -> Refused
+    ensures { result ≡ Refused.Unmet (row_number event) }
+{
+    Refused::Unmet {
+        row: row_number(&event),
+    }
+}
+
+fn full(event: Event) -> Refused
+    ensures { result ≡ Refused.Full }
+{
+    let _not_made = event;
+    Refused::Full
 }
 
 impl Shard {
-    ghost use Rattle.shard_core.specs.Kept.{Makes, IsSafe, world_of};
-
-    /// A shard of these tablets to which nothing has happened. Its clock begins at this moment, in milliseconds since the start of
-    /// 1970.
+    /// A shard of these tablets, in alias order, to which nothing has happened. Its clock begins at this moment, in milliseconds since the
+    /// start of 1970, before the year 9999.
     pub fn new(alloc: Global, tablets: &[Tablet], moment: u64) -> Result<Shard, OutOfMemory>
-        requires { AreTablets tablets.now }
+        requires tablets { AreTablets tablets.now }
+        requires few { length tablets.now ≤ 32 }
+        requires begins { IsTrue (nat_lt moment 253370764800000) }
         ensures { IfOk result (λ shard. shard ≡ record { config = record { tablets = tablets.now; moment = moment }; steps = [] }) }
     {
-        let places = opened_places(alloc, tablets)?;
+        let managers = opened_managers(alloc, tablets)?;
         let actors = opened_actors(alloc)?;
         let topo = Topo::new(alloc, tablets.len() as u64)?;
+        let post = Post::new(alloc, tablets)?;
         Ok(Shard {
             fields: Fields {
                 alloc,
-                places,
+                managers,
                 moment,
                 topo,
+                post,
                 clock: moment,
-                promoted: false,
+                cuts: Vec::new(alloc),
                 actors,
                 commands: Vec::new(alloc),
             },
@@ -201,18 +207,22 @@ impl Shard {
         history
     }
 
-    /// The tablet with this alias. It takes no memory.
-    pub fn tablet(&self, alias: &Alias) -> Option<Tablet>
-        ensures { result ≡ tablet_of self.now.config.tablets alias.now }
+    /// How many commands have begun. It takes no memory.
+    pub fn begun(&self) -> u64
+        ensures { result ≡ length (world_of self.now).commands }
     {
-        find_tablet(&self.fields.places, alias)
+        self.fields.commands.len() as u64
     }
 
-    /// The lock, the intents and the record. It takes no memory.
-    pub fn topo(&self) -> &Topo
-        ensures { result.now.topology ≡ (world_of self.now).topo }
+    /// What stands: the world to which the steps have led. It takes no memory.
+    pub fn fields(&self) -> &Fields
+        ensures config { config_in (data_of result.now) ≡ self.now.config }
+        ensures world { world_seen (data_of result.now) self.now.steps ≡ world_of self.now }
+        ensures tablets { AreTablets self.now.config.tablets }
+        ensures begins { IsTrue (nat_lt self.now.config.moment 253370764800000) }
+        ensures run { IsRun self.now.config self.now.steps }
     {
-        &self.fields.topo
+        &self.fields
     }
 
     /// The command of this number, if it has begun and not ended. It takes no memory.
@@ -229,18 +239,33 @@ impl Shard {
         open_of(&self.fields.actors, name)
     }
 
+    /// The tablet with this alias. It takes no memory.
+    pub fn tablet(&self, alias: &Alias) -> Option<Tablet>
+        ensures { result ≡ tablet_of self.now.config.tablets alias.now }
+    {
+        tablet_of(&self.fields.managers, alias)
+    }
+
     /// Whether the condition of the event's row holds. It takes no memory.
     pub fn meets(&self, event: &Event) -> bool
         ensures { result ≡ meets self.now.config (world_of self.now) event.now }
     {
-        meets(&self.fields, event)
+        let found = find(&self.fields, event);
+        is_met(&self.fields, &self.history, event, &found)
     }
 
-    /// How many commands have begun. It takes no memory.
-    pub fn begun(&self) -> u64
-        ensures { result ≡ length (world_of self.now).commands }
+    /// The message that comes next of itself: the first that has not come to its receiver, and may. It takes no memory.
+    pub fn deliverable(&self) -> Option<u64>
+        ensures { result ≡ next_due (world_of self.now) }
     {
-        self.fields.commands.len() as u64
+        arrivals::deliverable(&self.fields)
+    }
+
+    /// The first tablet, in alias order, that may be offered an entry. It takes no memory.
+    pub fn offerable(&self) -> Option<Alias>
+        ensures { result ≡ next_offered self.now.config (world_of self.now) }
+    {
+        arrivals::offerable(&self.fields)
     }
 
     /// One step of the machine. A refusal changes nothing. A command's first Release and its End take no memory.
@@ -253,16 +278,22 @@ impl Shard {
         ensures err { OnErr result (self.new ≡ self.old) }
         ensures kept { has_room_kept (world_of self.old) event ≡ true → IsErrOf result Refused.OutOfMemory → ⊥ }
     {
-        if !meets(&self.fields, &event) {
-            return Err(Refused::Unmet {
-                row: row_number(&event),
-            });
-        }
-        if self.history.steps.len() >= MOST_STEPS {
-            return Err(Refused::Full);
-        }
+        let found = match look(&self.fields, &self.history, &event) {
+            Some(found) => found,
+            None => return Err(unmet(event)),
+        };
+        let found = match unless_full(&self.history, found) {
+            Some(found) => found,
+            None => return Err(full(event)),
+        };
         let owed = owed_after(&self.fields, self.owed, &event);
-        match make(&mut self.fields, &mut self.history.steps, owed, &event) {
+        match make(
+            &mut self.fields,
+            &mut self.history.steps,
+            owed,
+            event,
+            found,
+        ) {
             Ok(reply) => {
                 self.owed = owed;
                 Ok(reply)

@@ -13,7 +13,7 @@ use Rattle.shard_names.specs.declared.shard_name.ShardName.{ShardName}
 use Rattle.shard_names.specs.declared.tablet.Tablet.{Tablet as TabletData}
 use Rattle.shard_names.specs.Tablets.{alias_eq, ServersDiffer}
 use Rattle.shard_names.proofs.TabletLemmas.{alias_eq-Decides}
-use Rattle.shard_core.specs.declared.command.Command.TheVariants.{Planned, Write}
+use Rattle.shard_calls.specs.declared.command.Command.TheVariants.{Planned, Write, Show}
 use Rattle.shard_script.specs.declared.line.Line.{Line}
 use Rattle.shard_script.specs.declared.line.Line.TheVariants.{Shard, Tablet, Act}
 use Rattle.shard_script.specs.declared.script.Action.{Action}
@@ -182,11 +182,21 @@ permuted_all ds = subst (λ (xs : List TabletData). IsPermutation xs (placed [] 
 
 of_this : (o : Option ShardName) (name : ShardName) → o ≡ Some name → (x : Action) → FitsShard o x → IsOfShard name x
 of_this o name is (actions.Play (Planned n a) k) h = let e : Some n ≡ Some name = sym h.0 ∙ is in cc
-of_this o name is (actions.Play Write k) h = tt
+of_this o name is (actions.Play (Write to) k) h = tt
+of_this o name is (actions.Play (Show a) k) h = tt
 of_this o name is (actions.Start starter (Planned n a)) h = let e : Some n ≡ Some name = sym h ∙ is in cc
-of_this o name is (actions.Start starter Write) h = tt
+of_this o name is (actions.Start starter (Write to)) h = tt
+of_this o name is (actions.Start starter (Show a)) h = tt
 of_this o name is (actions.Turn starter pumps) h = tt
 of_this o name is (actions.Finish starter) h = tt
+of_this o name is actions.Settle h = tt
+of_this o name is (actions.Local a) h = tt
+of_this o name is (actions.Crash a keep) h = tt
+of_this o name is (actions.Restart a) h = tt
+of_this o name is (actions.Cut x y) h = tt
+of_this o name is (actions.Mend x y) h = tt
+of_this o name is (actions.Lose message) h = tt
+of_this o name is (actions.Repeat message) h = tt
 of_this o name is actions.Lapse h = tt
 of_this o name is (actions.Tick milliseconds) h = tt
 
@@ -223,6 +233,7 @@ shard_script l ls t got =
       aliases_differ = r.aliases_differ;
       servers_differ = r.servers_differ;
       of_shard = All-map (FitsShard t.shard) (IsOfShard first.0) t.actions (of_this t.shard first.0 r.shard) fits.actions;
+      are_declared = fits.declared;
       names = fits.starts;
       few_names = fits.few_names;
       names_differ = fits.names_differ;

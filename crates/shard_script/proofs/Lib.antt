@@ -1,9 +1,11 @@
 pub mod OptionLemmas
+pub mod CommandLemmas
 pub mod LineLemmas
 pub mod NumberLemmas
 pub mod DurationLemmas
 pub mod TabletsInOrder
 pub mod NameLemmas
+pub mod DeclaredLemmas
 pub mod ScriptLemmas
 pub mod LineReads
 pub mod GrammarLemmas

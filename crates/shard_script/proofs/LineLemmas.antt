@@ -1,27 +1,35 @@
 -- A line is read exactly as the grammar has it.
 use Rattle.std.proofs.Common.{◌≡◌, ℕ, List, [], ◌∷◌, Bool, true, false, cond, eqb, Option, Some, None, length, refl, sym, ap, subst, ◌∙◌, arith}
-use Rattle.std.specs.Prelude.{codes}
+use Rattle.std.specs.Prelude.{codes, ◌==◌}
 use Rattle.std.specs.Result.{result_ok}
 use Rattle.std.specs.Str.{bytes_eq}
+use Rattle.std.proofs.lemmas.Bool.{eqb-true}
 use Rattle.std.proofs.lemmas.Bool.Decides.{nat_tests}
-use Rattle.shard_base.specs.Options.{◌>>=◌}
+use Rattle.shard_base.specs.Options.{◌>>=◌, only_if}
 use Rattle.shard_names.specs.Alias.{alias_reading}
 use Rattle.shard_names.specs.ShardName.{shard_name_reading}
 use Rattle.shard_names.specs.declared.tablet.TabletType.{TabletType}
 use Rattle.shard_names.specs.declared.tablet.TabletType.TheVariants.{Replica, Spare}
-use Rattle.shard_core.specs.declared.command.Command.{Command}
-use Rattle.shard_core.specs.declared.command.Command.TheVariants.{Planned, Write}
+use Rattle.shard_names.specs.declared.alias.Alias.{Alias}
+use Rattle.shard_calls.specs.declared.event.Link.{Link}
+use Rattle.shard_calls.specs.declared.event.Side.{Side}
+use Rattle.shard_calls.specs.declared.event.Side.TheVariants as sides
+use Rattle.shard_script.specs.declared.command.Given.{Given}
 use Rattle.shard_script.specs.declared.line.Line.{Line}
 use Rattle.shard_script.specs.declared.line.Line.TheVariants.{Shard, Tablet, Act}
-use Rattle.shard_script.specs.declared.script.Action.TheVariants.{Play, Start, Turn, Finish, Lapse, Tick}
-use Rattle.shard_script.specs.Numbers.{number_within, duration_reading}
+use Rattle.shard_script.specs.declared.script.Action.{Action}
+use Rattle.shard_script.specs.declared.script.Action.TheVariants.{Play, Start, Turn, Finish, Settle, Local, Crash, Restart, Cut, Mend, Lose, Repeat, Lapse, Tick}
+use Rattle.shard_script.specs.Numbers.{number_reading, number_within, duration_reading}
 use Rattle.shard_script.specs.Names.{name_reading}
-use Rattle.shard_script.specs.Lines.{words_of, server_reading, kind_reading, shard_line, tablet_line, planned_command, planned_line, write_line, start_write_line, start_planned_line, turn_line, finish_line, tick_line, one_word, two_words, three_words, four_words, six_words, line_of_words, line_of}
-use Rattle.shard_script.specs.Grammar.{IsTypeWord, IsNumber, IsCommand, Says}
-use Rattle.shard_script.proofs.OptionLemmas.{cond_some, bind_some, ok_some, same_bytes, choose}
-use Rattle.shard_script.proofs.NumberLemmas.{within_of}
+use Rattle.shard_script.specs.Aliases.{are_ends}
+use Rattle.shard_script.specs.Commands.{command_of_two, command_of_four}
+use Rattle.shard_script.specs.Lines.{words_of, server_reading, kind_reading, shard_line, tablet_line, play_line, start_line, turn_line, finish_line, tick_line, local_line, crash_line, restart_line, side_reading, link_reading, cut_line, mend_line, lose_line, repeat_line, one_word, tablet_or_message, two_words, three_words, four_words, six_words, line_of_words, line_of}
+use Rattle.shard_script.specs.Grammar.{IsTypeWord, IsCommand, IsOfTablet, IsSide, IsLinkLine, Says}
+use Rattle.shard_script.proofs.OptionLemmas.{cond_some, bind_some, only_if_some, ok_some, same_bytes, choose}
+use Rattle.shard_script.proofs.NumberLemmas.{number_of, number_small, within_of}
 use Rattle.shard_script.proofs.DurationLemmas.{duration_of}
 use Rattle.shard_script.proofs.NameLemmas.{name_of}
+use Rattle.shard_script.proofs.CommandLemmas.{IsGiven, two_of, four_of}
 
 -- ---- from what is read to what is said
 
@@ -56,72 +64,26 @@ says_tablet line alias kind server x words h =
       server_is = r.1;
     })
 
-planned_of : (name option alias : List ℕ) (c : Command) → planned_command name option alias ≡ Some c → IsCommand (codes "PlannedReparentShard" ∷ name ∷ option ∷ alias ∷ []) c 1
-unfolding planned_command
-planned_of name option alias c h =
-    let p = cond_some (bytes_eq option (codes "--new-primary")) (shard_name_reading name >>= (λ n. result_ok (alias_reading alias) >>= (λ a. Some (Planned n a)))) c h in
-    let q = bind_some (shard_name_reading name) (λ n. result_ok (alias_reading alias) >>= (λ a. Some (Planned n a))) c p.1 in
-    let r = bind_some (result_ok (alias_reading alias)) (λ a. Some (Planned q.0 a)) c q.2 in
-    let is : Planned q.0 r.0 ≡ c = (let e : Some (Planned q.0 r.0) ≡ Some c = r.2 in cc) in
-    let word : option ≡ codes "--new-primary" = same_bytes option (codes "--new-primary") p.0 in
-    subst (λ (d : Command). IsCommand (codes "PlannedReparentShard" ∷ name ∷ option ∷ alias ∷ []) d 1) is (
-      record {
-        name_text = name;
-        alias_text = alias;
-        words_are = ap (λ (t : List ℕ). codes "PlannedReparentShard" ∷ name ∷ t ∷ alias ∷ []) word;
-        name_is = q.1;
-        alias_is = ok_some (alias_reading alias) r.0 r.1;
-      },
-      refl,
-    )
+says_play : (line : List ℕ) (words : List (List ℕ)) (given : Option Given) (x : Line) → words_of line ≡ words → ((g : Given) → given ≡ Some g → IsGiven words g) → play_line given ≡ Some x → Says line x
+unfolding play_line
+says_play line words given x split says h =
+    let p = bind_some given (λ g. Some (Act (Play g.command g.count))) x h in
+    let is : Act (Play p.0.command p.0.count) ≡ x = (let e : Some (Act (Play p.0.command p.0.count)) ≡ Some x = p.2 in cc) in
+    subst (λ (y : Line). Says line y) is (subst (λ (ws : List (List ℕ)). IsCommand ws p.0.command p.0.count) (sym split) (says p.0 p.1))
 
-says_planned : (line name option alias : List ℕ) (x : Line) → words_of line ≡ codes "PlannedReparentShard" ∷ name ∷ option ∷ alias ∷ [] → planned_line name option alias ≡ Some x → Says line x
-unfolding planned_line
-says_planned line name option alias x words h =
-    let p = bind_some (planned_command name option alias) (λ c. Some (Act (Play c 1))) x h in
-    let is : Act (Play p.0 1) ≡ x = (let e : Some (Act (Play p.0 1)) ≡ Some x = p.2 in cc) in
-    subst (λ (y : Line). Says line y) is (subst (λ (ws : List (List ℕ)). IsCommand ws p.0 1) (sym words) (planned_of name option alias p.0 p.1))
-
-says_write : (line count : List ℕ) (x : Line) → words_of line ≡ codes "write" ∷ count ∷ [] → write_line count ≡ Some x → Says line x
-unfolding write_line
-says_write line count x words h =
-    let p = bind_some (number_within 1 100 count) (λ n. Some (Act (Play Write n))) x h in
-    let within = within_of 1 100 count p.0 p.1 in
-    let is : Act (Play Write p.0) ≡ x = (let e : Some (Act (Play Write p.0)) ≡ Some x = p.2 in cc) in
-    subst (λ (y : Line). Says line y) is (record { digits = count; words_are = words; number = within.number; from_one = within.from_least; to_hundred = within.to_most })
-
-says_start_write : (line name head count : List ℕ) (x : Line) → words_of line ≡ codes "start" ∷ name ∷ head ∷ count ∷ [] → start_write_line name head count ≡ Some x → Says line x
-unfolding start_write_line
-says_start_write line name head count x words h =
-    let p = cond_some (bytes_eq head (codes "write")) (name_reading name >>= (λ n. number_within 1 1 count >>= (λ k. Some (Act (Start n Write))))) x h in
-    let q = bind_some (name_reading name) (λ n. number_within 1 1 count >>= (λ k. Some (Act (Start n Write)))) x p.1 in
-    let r = bind_some (number_within 1 1 count) (λ k. Some (Act (Start q.0 Write))) x q.2 in
-    let is : Act (Start q.0 Write) ≡ x = (let e : Some (Act (Start q.0 Write)) ≡ Some x = r.2 in cc) in
-    let named = name_of name q.0 q.1 in
-    let within = within_of 1 1 count r.0 r.1 in
-    let one : r.0 ≡ 1 = omega (arith, within.from_least, within.to_most) in
-    let word : head ≡ codes "write" = same_bytes head (codes "write") p.0 in
-    subst (λ (y : Line). Says line y) is (record {
-      command_words = codes "write" ∷ count ∷ [];
-      words = words ∙ (λ i. codes "start" ∷ named.0 i ∷ word i ∷ count ∷ []);
+says_start : (line name : List ℕ) (words : List (List ℕ)) (given : Option Given) (x : Line) → words_of line ≡ codes "start" ∷ name ∷ words → ((g : Given) → given ≡ Some g → IsGiven words g) → start_line name given ≡ Some x → Says line x
+unfolding start_line
+says_start line name words given x split says h =
+    let p = bind_some (name_reading name) (λ n. given >>= (λ g. only_if (g.count == 1) (Act (Start n g.command)))) x h in
+    let q = bind_some given (λ g. only_if (g.count == 1) (Act (Start p.0 g.command))) x p.2 in
+    let r = only_if_some (q.0.count == 1) (Act (Start p.0 q.0.command)) x q.2 in
+    let named = name_of name p.0 p.1 in
+    let one : q.0.count ≡ 1 = eqb-true q.0.count 1 r.0 in
+    subst (λ (y : Line). Says line y) r.1 (record {
+      command_words = words;
+      words = split ∙ ap (λ (t : List ℕ). codes "start" ∷ t ∷ words) named.0;
       is_name = named.1;
-      once = record { digits = count; words_are = refl; number = subst (λ (k : ℕ). IsNumber count k) one within.number; from_one = omega arith; to_hundred = omega arith };
-    })
-
-says_start_planned : (line name head shard option alias : List ℕ) (x : Line) → words_of line ≡ codes "start" ∷ name ∷ head ∷ shard ∷ option ∷ alias ∷ [] → start_planned_line name head shard option alias ≡ Some x → Says line x
-unfolding start_planned_line
-says_start_planned line name head shard option alias x words h =
-    let p = cond_some (bytes_eq head (codes "PlannedReparentShard")) (name_reading name >>= (λ n. planned_command shard option alias >>= (λ c. Some (Act (Start n c))))) x h in
-    let q = bind_some (name_reading name) (λ n. planned_command shard option alias >>= (λ c. Some (Act (Start n c)))) x p.1 in
-    let r = bind_some (planned_command shard option alias) (λ c. Some (Act (Start q.0 c))) x q.2 in
-    let is : Act (Start q.0 r.0) ≡ x = (let e : Some (Act (Start q.0 r.0)) ≡ Some x = r.2 in cc) in
-    let named = name_of name q.0 q.1 in
-    let word : head ≡ codes "PlannedReparentShard" = same_bytes head (codes "PlannedReparentShard") p.0 in
-    subst (λ (y : Line). Says line y) is (record {
-      command_words = codes "PlannedReparentShard" ∷ shard ∷ option ∷ alias ∷ [];
-      words = words ∙ (λ i. codes "start" ∷ named.0 i ∷ word i ∷ shard ∷ option ∷ alias ∷ []);
-      is_name = named.1;
-      once = planned_of shard option alias r.0 r.1;
+      once = subst (λ (k : ℕ). IsCommand words q.0.command k) one (says q.0 q.1);
     })
 
 says_turn : (line name pumps : List ℕ) (x : Line) → words_of line ≡ codes "turn" ∷ name ∷ pumps ∷ [] → turn_line name pumps ≡ Some x → Says line x
@@ -168,6 +130,84 @@ says_tick line duration x words h =
       to_a_day = d.to_a_day;
     })
 
+-- a line that does something with one tablet
+says_tablet_act : (line head text : List ℕ) (make : Alias → Action) (x : Line) → words_of line ≡ head ∷ text ∷ [] → ((a : Alias) → IsOfTablet head (words_of line) a → Says line (Act (make a))) → (result_ok (alias_reading text) >>= (λ a. Some (Act (make a)))) ≡ Some x → Says line x
+says_tablet_act line head text make x words says h =
+    let p = bind_some (result_ok (alias_reading text)) (λ a. Some (Act (make a))) x h in
+    let is : Act (make p.0) ≡ x = (let e : Some (Act (make p.0)) ≡ Some x = p.2 in cc) in
+    subst (λ (y : Line). Says line y) is (says p.0 (record { alias_text = text; words_are = words; alias_is = ok_some (alias_reading text) p.0 p.1 }))
+
+says_local : (line alias : List ℕ) (x : Line) → words_of line ≡ codes "local" ∷ alias ∷ [] → local_line alias ≡ Some x → Says line x
+unfolding local_line
+says_local line alias x words h = says_tablet_act line (codes "local") alias (λ a. Local a) x words (λ a is. is) h
+
+says_restart : (line alias : List ℕ) (x : Line) → words_of line ≡ codes "restart" ∷ alias ∷ [] → restart_line alias ≡ Some x → Says line x
+unfolding restart_line
+says_restart line alias x words h = says_tablet_act line (codes "restart") alias (λ a. Restart a) x words (λ a is. is) h
+
+says_crash : (line alias keep count : List ℕ) (x : Line) → words_of line ≡ codes "crash" ∷ alias ∷ keep ∷ count ∷ [] → crash_line alias keep count ≡ Some x → Says line x
+unfolding crash_line
+says_crash line alias keep count x words h =
+    let p = cond_some (bytes_eq keep (codes "keep")) (result_ok (alias_reading alias) >>= (λ a. number_reading count >>= (λ n. Some (Act (Crash a n))))) x h in
+    let q = bind_some (result_ok (alias_reading alias)) (λ a. number_reading count >>= (λ n. Some (Act (Crash a n)))) x p.1 in
+    let r = bind_some (number_reading count) (λ n. Some (Act (Crash q.0 n))) x q.2 in
+    let is : Act (Crash q.0 r.0) ≡ x = (let e : Some (Act (Crash q.0 r.0)) ≡ Some x = r.2 in cc) in
+    let word : keep ≡ codes "keep" = same_bytes keep (codes "keep") p.0 in
+    subst (λ (y : Line). Says line y) is (record {
+      alias_text = alias;
+      digits = count;
+      words = words ∙ ap (λ (t : List ℕ). codes "crash" ∷ alias ∷ t ∷ count ∷ []) word;
+      alias_is = ok_some (alias_reading alias) q.0 q.1;
+      number = number_of count r.0 r.1;
+      small = number_small count r.0 r.1;
+    })
+
+side_of : (text : List ℕ) (s : Side) → side_reading text ≡ Some s → IsSide text s
+unfolding side_reading
+side_of text s h =
+    choose (IsSide text s) (bytes_eq text (codes "control")) (Some sides.Control) (result_ok (alias_reading text) >>= (λ a. Some (sides.Tablet a))) s h
+    (λ is got. let e : sides.Control ≡ s = (cc) in subst (λ (t : Side). IsSide text t) e (same_bytes text (codes "control") is))
+    (λ rest. let p = bind_some (result_ok (alias_reading text)) (λ a. Some (sides.Tablet a)) s rest in
+    let e : sides.Tablet p.0 ≡ s = (let f : Some (sides.Tablet p.0) ≡ Some s = p.2 in cc) in
+    subst (λ (t : Side). IsSide text t) e (ok_some (alias_reading text) p.0 p.1))
+
+link_of : (line head a b : List ℕ) (l : Link) → words_of line ≡ head ∷ a ∷ b ∷ [] → link_reading a b ≡ Some l → IsLinkLine head line l.x l.y
+unfolding link_reading
+link_of line head a b l words h =
+    let p = bind_some (side_reading a) (λ x. side_reading b >>= (λ y. only_if (are_ends x y) (record { x = x; y = y }))) l h in
+    let q = bind_some (side_reading b) (λ y. only_if (are_ends p.0 y) (record { x = p.0; y = y })) l p.2 in
+    let made : Link = record { x = p.0; y = q.0 } in
+    let r = only_if_some (are_ends p.0 q.0) made l q.2 in
+    subst (λ (k : Link). IsLinkLine head line k.x k.y) r.1 (record { x_text = a; y_text = b; words = words; x_is = side_of a p.0 p.1; y_is = side_of b q.0 q.1; ends = r.0 })
+
+says_cut : (line a b : List ℕ) (x : Line) → words_of line ≡ codes "cut" ∷ a ∷ b ∷ [] → cut_line a b ≡ Some x → Says line x
+unfolding cut_line
+says_cut line a b x words h =
+    let p = bind_some (link_reading a b) (λ l. Some (Act (Cut l.x l.y))) x h in
+    let is : Act (Cut p.0.x p.0.y) ≡ x = (let e : Some (Act (Cut p.0.x p.0.y)) ≡ Some x = p.2 in cc) in
+    subst (λ (y : Line). Says line y) is (link_of line (codes "cut") a b p.0 words p.1)
+
+says_mend : (line a b : List ℕ) (x : Line) → words_of line ≡ codes "mend" ∷ a ∷ b ∷ [] → mend_line a b ≡ Some x → Says line x
+unfolding mend_line
+says_mend line a b x words h =
+    let p = bind_some (link_reading a b) (λ l. Some (Act (Mend l.x l.y))) x h in
+    let is : Act (Mend p.0.x p.0.y) ≡ x = (let e : Some (Act (Mend p.0.x p.0.y)) ≡ Some x = p.2 in cc) in
+    subst (λ (y : Line). Says line y) is (link_of line (codes "mend") a b p.0 words p.1)
+
+says_lose : (line digits : List ℕ) (x : Line) → words_of line ≡ codes "lose" ∷ digits ∷ [] → lose_line digits ≡ Some x → Says line x
+unfolding lose_line
+says_lose line digits x words h =
+    let p = bind_some (number_reading digits) (λ k. Some (Act (Lose k))) x h in
+    let is : Act (Lose p.0) ≡ x = (let e : Some (Act (Lose p.0)) ≡ Some x = p.2 in cc) in
+    subst (λ (y : Line). Says line y) is (record { digits = digits; words = words; number = number_of digits p.0 p.1; small = number_small digits p.0 p.1 })
+
+says_repeat : (line digits : List ℕ) (x : Line) → words_of line ≡ codes "repeat" ∷ digits ∷ [] → repeat_line digits ≡ Some x → Says line x
+unfolding repeat_line
+says_repeat line digits x words h =
+    let p = bind_some (number_reading digits) (λ k. Some (Act (Repeat k))) x h in
+    let is : Act (Repeat p.0) ≡ x = (let e : Some (Act (Repeat p.0)) ≡ Some x = p.2 in cc) in
+    subst (λ (y : Line). Says line y) is (record { digits = digits; words = words; number = number_of digits p.0 p.1; small = number_small digits p.0 p.1 })
+
 -- ---- by the first word, which is told by its test
 
 first_is : (line a b : List ℕ) (rest : List (List ℕ)) → words_of line ≡ a ∷ rest → bytes_eq a b ≡ true → words_of line ≡ b ∷ rest
@@ -175,38 +215,61 @@ first_is line a b rest words h = words ∙ ap (λ (t : List ℕ). t ∷ rest) (s
 
 says_one : (line a : List ℕ) (x : Line) → words_of line ≡ a ∷ [] → one_word a ≡ Some x → Says line x
 says_one line a x words h =
-    let p = cond_some (bytes_eq a (codes "lapse")) (Some (Act Lapse)) x h in
-    let is : Act Lapse ≡ x = (let e : Some (Act Lapse) ≡ Some x = p.1 in cc) in
-    subst (λ (y : Line). Says line y) is (first_is line a (codes "lapse") [] words p.0)
+    choose (Says line x) (bytes_eq a (codes "lapse")) (Some (Act Lapse)) (cond (bytes_eq a (codes "settle")) (Some (Act Settle)) None) x h
+    (λ is got. let e : Act Lapse ≡ x = (cc) in subst (λ (y : Line). Says line y) e (first_is line a (codes "lapse") [] words is))
+    (λ last. let p = only_if_some (bytes_eq a (codes "settle")) (Act Settle) x last in subst (λ (y : Line). Says line y) p.1 (first_is line a (codes "settle") [] words p.0))
+
+says_tablet_or_message : (line a b : List ℕ) (x : Line) → words_of line ≡ a ∷ b ∷ [] → tablet_or_message a b ≡ Some x → Says line x
+says_tablet_or_message line a b x words h =
+    let if_command : Option Line = play_line (command_of_two a b) in
+    let if_repeat : Option Line = cond (bytes_eq a (codes "repeat")) (repeat_line b) if_command in
+    let if_lose : Option Line = cond (bytes_eq a (codes "lose")) (lose_line b) if_repeat in
+    choose (Says line x) (bytes_eq a (codes "local")) (local_line b) (cond (bytes_eq a (codes "restart")) (restart_line b) if_lose) x h
+    (λ is got. says_local line b x (first_is line a (codes "local") (b ∷ []) words is) got)
+    (λ behind_local. choose (Says line x) (bytes_eq a (codes "restart")) (restart_line b) if_lose x behind_local
+    (λ is got. says_restart line b x (first_is line a (codes "restart") (b ∷ []) words is) got)
+    (λ behind_restart. choose (Says line x) (bytes_eq a (codes "lose")) (lose_line b) if_repeat x behind_restart
+    (λ is got. says_lose line b x (first_is line a (codes "lose") (b ∷ []) words is) got)
+    (λ behind_lose. choose (Says line x) (bytes_eq a (codes "repeat")) (repeat_line b) if_command x behind_lose
+    (λ is got. says_repeat line b x (first_is line a (codes "repeat") (b ∷ []) words is) got)
+    (λ last. says_play line (a ∷ b ∷ []) (command_of_two a b) x words (λ g got. two_of a b g got) last))))
 
 says_two : (line a b : List ℕ) (x : Line) → words_of line ≡ a ∷ b ∷ [] → two_words a b ≡ Some x → Says line x
 says_two line a b x words h =
-    let if_tick : Option Line = cond (bytes_eq a (codes "tick")) (tick_line b) None in
-    choose (Says line x) (bytes_eq a (codes "write")) (write_line b) (cond (bytes_eq a (codes "finish")) (finish_line b) if_tick) x h
-    (λ is got. says_write line b x (first_is line a (codes "write") (b ∷ []) words is) got)
-    (λ others. choose (Says line x) (bytes_eq a (codes "finish")) (finish_line b) if_tick x others
+    choose (Says line x) (bytes_eq a (codes "finish")) (finish_line b) (cond (bytes_eq a (codes "tick")) (tick_line b) (tablet_or_message a b)) x h
     (λ is got. says_finish line b x (first_is line a (codes "finish") (b ∷ []) words is) got)
-    (λ last. let p = cond_some (bytes_eq a (codes "tick")) (tick_line b) x last in says_tick line b x (first_is line a (codes "tick") (b ∷ []) words p.0) p.1))
+    (λ others. choose (Says line x) (bytes_eq a (codes "tick")) (tick_line b) (tablet_or_message a b) x others
+    (λ is got. says_tick line b x (first_is line a (codes "tick") (b ∷ []) words is) got)
+    (λ last. says_tablet_or_message line a b x words last))
 
 says_three : (line a b c : List ℕ) (x : Line) → words_of line ≡ a ∷ b ∷ c ∷ [] → three_words a b c ≡ Some x → Says line x
 says_three line a b c x words h =
-    choose (Says line x) (bytes_eq a (codes "shard")) (shard_line b c) (cond (bytes_eq a (codes "turn")) (turn_line b c) None) x h
+    let if_mend : Option Line = cond (bytes_eq a (codes "mend")) (mend_line b c) None in
+    let if_cut : Option Line = cond (bytes_eq a (codes "cut")) (cut_line b c) if_mend in
+    choose (Says line x) (bytes_eq a (codes "shard")) (shard_line b c) (cond (bytes_eq a (codes "turn")) (turn_line b c) if_cut) x h
     (λ is got. says_shard line b c x (first_is line a (codes "shard") (b ∷ c ∷ []) words is) got)
-    (λ last. let p = cond_some (bytes_eq a (codes "turn")) (turn_line b c) x last in says_turn line b c x (first_is line a (codes "turn") (b ∷ c ∷ []) words p.0) p.1)
+    (λ behind_shard. choose (Says line x) (bytes_eq a (codes "turn")) (turn_line b c) if_cut x behind_shard
+    (λ is got. says_turn line b c x (first_is line a (codes "turn") (b ∷ c ∷ []) words is) got)
+    (λ behind_turn. choose (Says line x) (bytes_eq a (codes "cut")) (cut_line b c) if_mend x behind_turn
+    (λ is got. says_cut line b c x (first_is line a (codes "cut") (b ∷ c ∷ []) words is) got)
+    (λ last. let p = cond_some (bytes_eq a (codes "mend")) (mend_line b c) x last in says_mend line b c x (first_is line a (codes "mend") (b ∷ c ∷ []) words p.0) p.1)))
 
 says_four : (line a b c d : List ℕ) (x : Line) → words_of line ≡ a ∷ b ∷ c ∷ d ∷ [] → four_words a b c d ≡ Some x → Says line x
 says_four line a b c d x words h =
-    let if_start : Option Line = cond (bytes_eq a (codes "start")) (start_write_line b c d) None in
-    choose (Says line x) (bytes_eq a (codes "tablet")) (tablet_line b c d) (cond (bytes_eq a (codes "PlannedReparentShard")) (planned_line b c d) if_start) x h
+    let if_command : Option Line = play_line (command_of_four a b c d) in
+    let if_start : Option Line = cond (bytes_eq a (codes "start")) (start_line b (command_of_two c d)) if_command in
+    choose (Says line x) (bytes_eq a (codes "tablet")) (tablet_line b c d) (cond (bytes_eq a (codes "crash")) (crash_line b c d) if_start) x h
     (λ is got. says_tablet line b c d x (first_is line a (codes "tablet") (b ∷ c ∷ d ∷ []) words is) got)
-    (λ others. choose (Says line x) (bytes_eq a (codes "PlannedReparentShard")) (planned_line b c d) if_start x others
-    (λ is got. says_planned line b c d x (first_is line a (codes "PlannedReparentShard") (b ∷ c ∷ d ∷ []) words is) got)
-    (λ last. let p = cond_some (bytes_eq a (codes "start")) (start_write_line b c d) x last in says_start_write line b c d x (first_is line a (codes "start") (b ∷ c ∷ d ∷ []) words p.0) p.1))
+    (λ behind_tablet. choose (Says line x) (bytes_eq a (codes "crash")) (crash_line b c d) if_start x behind_tablet
+    (λ is got. says_crash line b c d x (first_is line a (codes "crash") (b ∷ c ∷ d ∷ []) words is) got)
+    (λ behind_crash. choose (Says line x) (bytes_eq a (codes "start")) (start_line b (command_of_two c d)) if_command x behind_crash
+    (λ is got. says_start line b (c ∷ d ∷ []) (command_of_two c d) x (first_is line a (codes "start") (b ∷ c ∷ d ∷ []) words is) (λ g was. two_of c d g was) got)
+    (λ last. says_play line (a ∷ b ∷ c ∷ d ∷ []) (command_of_four a b c d) x words (λ g was. four_of a b c d g was) last)))
 
 says_six : (line a b c d e f : List ℕ) (x : Line) → words_of line ≡ a ∷ b ∷ c ∷ d ∷ e ∷ f ∷ [] → six_words a b c d e f ≡ Some x → Says line x
 says_six line a b c d e f x words h =
-    let p = cond_some (bytes_eq a (codes "start")) (start_planned_line b c d e f) x h in
-    says_start_planned line b c d e f x (first_is line a (codes "start") (b ∷ c ∷ d ∷ e ∷ f ∷ []) words p.0) p.1
+    let p = cond_some (bytes_eq a (codes "start")) (start_line b (command_of_four c d e f)) x h in
+    says_start line b (c ∷ d ∷ e ∷ f ∷ []) (command_of_four c d e f) x (first_is line a (codes "start") (b ∷ c ∷ d ∷ e ∷ f ∷ []) words p.0) (λ g was. four_of c d e f g was) p.1
 
 too_many : (a b c d e f g : List ℕ) (ws : List (List ℕ)) → line_of_words (a ∷ b ∷ c ∷ d ∷ e ∷ f ∷ g ∷ ws) ≡ None
 unfolding line_of_words

@@ -1,28 +1,35 @@
 -- What a line says is read from it.
-use Rattle.std.proofs.Common.{◌≡◌, ℕ, List, ◌∷◌, ◌++◌, Option, Some, Result, Ok, refl, sym, ap, ◌∙◌, arith}
+use Rattle.std.proofs.Common.{◌≡◌, ℕ, List, ◌∷◌, ◌++◌, Bool, false, cond, Option, Some, None, Result, Ok, refl, sym, ap, ◌∙◌, arith}
 use Rattle.std.specs.Prelude.{codes, option_and_then}
 use Rattle.std.specs.Result.{result_ok}
-use Rattle.shard_base.specs.Options.{◌>>=◌}
+use Rattle.std.specs.Str.{bytes_eq}
+use Rattle.shard_base.specs.Options.{◌>>=◌, only_if}
 use Rattle.shard_names.specs.Alias.{alias_reading}
-use Rattle.shard_names.specs.ShardName.{shard_name_reading}
 use Rattle.shard_names.specs.declared.alias.Alias.{Alias}
 use Rattle.shard_names.specs.declared.alias.NameFault.{NameFault}
 use Rattle.shard_names.specs.declared.shard_name.ShardName.{ShardName}
 use Rattle.shard_names.specs.declared.tablet.Tablet.{Tablet as TabletData}
 use Rattle.shard_names.specs.declared.tablet.TabletType.{TabletType}
 use Rattle.shard_names.specs.declared.tablet.TabletType.TheVariants.{Replica, Rdonly, Spare}
-use Rattle.shard_core.specs.declared.command.Command.{Command}
-use Rattle.shard_core.specs.declared.command.Command.TheVariants.{Planned, Write}
+use Rattle.shard_calls.specs.declared.command.Command.{Command}
+use Rattle.shard_calls.specs.declared.command.Command.TheVariants.{Planned, Write, Show}
+use Rattle.shard_calls.specs.declared.event.Link.{Link}
+use Rattle.shard_calls.specs.declared.event.Side.{Side}
+use Rattle.shard_calls.specs.declared.event.Side.TheVariants as sides
+use Rattle.shard_script.specs.declared.command.Given.{Given}
 use Rattle.shard_script.specs.declared.line.Line.{Line}
 use Rattle.shard_script.specs.declared.line.Line.TheVariants.{Shard, Tablet, Act}
-use Rattle.shard_script.specs.declared.script.Action.TheVariants.{Play, Start, Turn, Finish, Lapse, Tick}
-use Rattle.shard_script.specs.Numbers.{number_within}
+use Rattle.shard_script.specs.declared.script.Action.TheVariants.{Play, Start, Turn, Finish, Settle, Local, Crash, Restart, Cut, Mend, Lose, Repeat, Lapse, Tick}
+use Rattle.shard_script.specs.Numbers.{number_reading, number_within}
 use Rattle.shard_script.specs.Names.{name_reading}
-use Rattle.shard_script.specs.Lines.{words_of, server_reading, kind_reading, shard_line, tablet_line, planned_command, planned_line, write_line, start_write_line, start_planned_line, turn_line, finish_line, tick_line, line_of_words, line_of}
-use Rattle.shard_script.specs.Grammar.{IsShardLine, IsTypeWord, IsTabletLine, IsPlanned, IsWrite, IsStartLine, IsTurnLine, IsFinishLine, IsLapseLine, IsTickLine, Says}
-use Rattle.shard_script.proofs.NumberLemmas.{within_reads}
+use Rattle.shard_script.specs.Aliases.{are_ends}
+use Rattle.shard_script.specs.Lines.{words_of, server_reading, kind_reading, shard_line, tablet_line, play_line, start_line, turn_line, finish_line, tick_line, local_line, crash_line, restart_line, side_reading, link_reading, cut_line, mend_line, lose_line, repeat_line, line_of_words, line_of}
+use Rattle.shard_script.specs.Grammar.{IsShardLine, IsTypeWord, IsTabletLine, IsCommand, IsOfTablet, IsStartLine, IsTurnLine, IsFinishLine, IsSettleLine, IsLapseLine, IsTickLine, IsCrashLine, IsSide, IsLinkLine, IsMessageLine, Says}
+use Rattle.shard_script.proofs.OptionLemmas.{same_bytes}
+use Rattle.shard_script.proofs.NumberLemmas.{number_reads, within_reads}
 use Rattle.shard_script.proofs.DurationLemmas.{duration_reads}
-use Rattle.shard_script.proofs.NameLemmas.{name_reads}
+use Rattle.shard_script.proofs.NameLemmas.{name_reads, not_same}
+use Rattle.shard_script.proofs.CommandLemmas.{planned_is, write_is, write_to_is, show_is}
 
 shard_read : (line : List ℕ) (name : ShardName) → IsShardLine line name → line_of line ≡ Some (Shard name)
 unfolding line_of_words shard_line
@@ -43,43 +50,41 @@ tablet_read line t h =
     ∙ ap (λ (o : Option TabletType). option_and_then (λ k. server_reading h.server_text >>= (λ s. Some (Tablet (record { alias = t.alias; server = s; kind = k })))) o) (kind_is h.type_text t.kind h.type_is)
     ∙ ap (λ (o : Option (List ℕ)). option_and_then (λ s. Some (Tablet (record { alias = t.alias; server = s; kind = t.kind }))) o) h.server_is
 
-planned_is : (name_text alias_text : List ℕ) (name : ShardName) (a : Alias) → shard_name_reading name_text ≡ Some name → alias_reading alias_text ≡ Ok a → planned_command name_text (codes "--new-primary") alias_text ≡ Some (Planned name a)
-unfolding planned_command
-planned_is name_text alias_text name a name_is alias_is =
-    ap (λ (o : Option ShardName). option_and_then (λ n. result_ok (alias_reading alias_text) >>= (λ b. Some (Planned n b))) o) name_is
-    ∙ ap (λ (r : Result Alias NameFault). option_and_then (λ b. Some (Planned name b)) (result_ok r)) alias_is
+-- a command that is played
+play_read : (line : List ℕ) (command : Command) (n : ℕ) → IsCommand (words_of line) command n → line_of line ≡ Some (Act (Play command n))
+unfolding line_of_words play_line
+play_read line (Planned name a) n h =
+    ap (λ (ws : List (List ℕ)). line_of_words ws) h.0.words_are ∙ ap (λ (o : Option Given). play_line o) (planned_is (words_of line) name a h.0)
+    ∙ ap (λ (k : ℕ). Some (Act (Play (Planned name a) k))) (sym h.1)
+play_read line (Write None) n h =
+    ap (λ (ws : List (List ℕ)). line_of_words ws) h.words_are ∙ ap (λ (o : Option Given). play_line o) (write_is (words_of line) n h)
+play_read line (Write (Some a)) n h =
+    ap (λ (ws : List (List ℕ)). line_of_words ws) h.words_are ∙ ap (λ (o : Option Given). play_line o) (write_to_is (words_of line) a n h)
+play_read line (Show a) n h =
+    ap (λ (ws : List (List ℕ)). line_of_words ws) h.0.words_are ∙ ap (λ (o : Option Given). play_line o) (show_is (words_of line) a h.0)
+    ∙ ap (λ (k : ℕ). Some (Act (Play (Show a) k))) (sym h.1)
 
-planned_read : (line : List ℕ) (name : ShardName) (a : Alias) → IsPlanned (words_of line) name a → line_of line ≡ Some (Act (Play (Planned name a) 1))
-unfolding line_of_words planned_line
-planned_read line name a h =
-    ap (λ (ws : List (List ℕ)). line_of_words ws) h.words_are
-    ∙ ap (λ (o : Option Command). option_and_then (λ c. Some (Act (Play c 1))) o) (planned_is h.name_text h.alias_text name a h.name_is h.alias_is)
+-- a name and a command that is given once
+started : (name : List ℕ) (command : Command) → name_reading name ≡ Some name → start_line name (Some (record { command = command; count = 1 })) ≡ Some (Act (Start name command))
+unfolding start_line
+started name command is_name =
+    ap (λ (o : Option (List ℕ)). let r : Option Line = option_and_then (λ n. Some (Act (Start n command))) o in r) is_name
 
-write_read : (line : List ℕ) (n : ℕ) → IsWrite (words_of line) n → line_of line ≡ Some (Act (Play Write n))
-unfolding line_of_words write_line
-write_read line n h =
-    ap (λ (ws : List (List ℕ)). line_of_words ws) h.words_are
-    ∙ ap (λ (o : Option ℕ). option_and_then (λ k. Some (Act (Play Write k))) o) (within_reads 1 100 h.digits n h.number h.from_one h.to_hundred (omega arith))
-
--- a reparent that a name starts
-start_planned_read : (line name : List ℕ) (words : List (List ℕ)) (shard : ShardName) (a : Alias) → words_of line ≡ codes "start" ∷ name ∷ words → name_reading name ≡ Some name → IsPlanned words shard a → line_of line ≡ Some (Act (Start name (Planned shard a)))
-unfolding line_of_words start_planned_line
-start_planned_read line name words shard a split is_name h =
-    ap (λ (ws : List (List ℕ)). line_of_words ws) (split ∙ ap (λ (ws : List (List ℕ)). codes "start" ∷ name ∷ ws) h.words_are)
-    ∙ ap (λ (o : Option (List ℕ)). option_and_then (λ n. planned_command h.name_text (codes "--new-primary") h.alias_text >>= (λ c. Some (Act (Start n c)))) o) is_name
-    ∙ ap (λ (o : Option Command). option_and_then (λ c. Some (Act (Start name c))) o) (planned_is h.name_text h.alias_text shard a h.name_is h.alias_is)
-
--- a write that a name starts
-start_write_read : (line name : List ℕ) (words : List (List ℕ)) → words_of line ≡ codes "start" ∷ name ∷ words → name_reading name ≡ Some name → IsWrite words 1 → line_of line ≡ Some (Act (Start name Write))
-unfolding line_of_words start_write_line
-start_write_read line name words split is_name h =
-    ap (λ (ws : List (List ℕ)). line_of_words ws) (split ∙ ap (λ (ws : List (List ℕ)). codes "start" ∷ name ∷ ws) h.words_are)
-    ∙ ap (λ (o : Option (List ℕ)). option_and_then (λ n. number_within 1 1 h.digits >>= (λ k. Some (Act (Start n Write)))) o) is_name
-    ∙ ap (λ (o : Option ℕ). option_and_then (λ k. Some (Act (Start name Write))) o) (within_reads 1 1 h.digits 1 h.number (omega arith) (omega arith) (omega arith))
+-- the words of a command behind `start NAME`
+start_words : (name : List ℕ) (words : List (List ℕ)) (command : Command) → IsCommand words command 1 → line_of_words (codes "start" ∷ name ∷ words) ≡ start_line name (Some (record { command = command; count = 1 }))
+unfolding line_of_words
+start_words name words (Planned shard a) h =
+    ap (λ (ws : List (List ℕ)). line_of_words (codes "start" ∷ name ∷ ws)) h.0.words_are ∙ ap (λ (o : Option Given). start_line name o) (planned_is words shard a h.0)
+start_words name words (Write None) h =
+    ap (λ (ws : List (List ℕ)). line_of_words (codes "start" ∷ name ∷ ws)) h.words_are ∙ ap (λ (o : Option Given). start_line name o) (write_is words 1 h)
+start_words name words (Write (Some a)) h =
+    ap (λ (ws : List (List ℕ)). line_of_words (codes "start" ∷ name ∷ ws)) h.words_are ∙ ap (λ (o : Option Given). start_line name o) (write_to_is words a 1 h)
+start_words name words (Show a) h =
+    ap (λ (ws : List (List ℕ)). line_of_words (codes "start" ∷ name ∷ ws)) h.0.words_are ∙ ap (λ (o : Option Given). start_line name o) (show_is words a h.0)
 
 start_read : (line name : List ℕ) (command : Command) → IsStartLine line name command → line_of line ≡ Some (Act (Start name command))
-start_read line name (Planned shard a) h = start_planned_read line name h.command_words shard a h.words (name_reads name h.is_name) h.once.0
-start_read line name Write h = start_write_read line name h.command_words h.words (name_reads name h.is_name) h.once
+start_read line name command h =
+    ap (λ (ws : List (List ℕ)). line_of_words ws) h.words ∙ start_words name h.command_words command h.once ∙ started name command (name_reads name h.is_name)
 
 turn_read : (line name : List ℕ) (pumps : ℕ) → IsTurnLine line name pumps → line_of line ≡ Some (Act (Turn name pumps))
 unfolding line_of_words turn_line
@@ -97,6 +102,74 @@ finish_read line name h =
 lapse_read : (line : List ℕ) → IsLapseLine line → line_of line ≡ Some (Act Lapse)
 unfolding line_of_words
 lapse_read line h = ap (λ (ws : List (List ℕ)). line_of_words ws) h
+
+settle_read : (line : List ℕ) → IsSettleLine line → line_of line ≡ Some (Act Settle)
+unfolding line_of_words
+settle_read line h = ap (λ (ws : List (List ℕ)). line_of_words ws) h
+
+local_read : (line : List ℕ) (a : Alias) → IsOfTablet (codes "local") (words_of line) a → line_of line ≡ Some (Act (Local a))
+unfolding line_of_words local_line
+local_read line a h =
+    ap (λ (ws : List (List ℕ)). line_of_words ws) h.words_are
+    ∙ ap (λ (r : Result Alias NameFault). option_and_then (λ b. Some (Act (Local b))) (result_ok r)) h.alias_is
+
+restart_read : (line : List ℕ) (a : Alias) → IsOfTablet (codes "restart") (words_of line) a → line_of line ≡ Some (Act (Restart a))
+unfolding line_of_words restart_line
+restart_read line a h =
+    ap (λ (ws : List (List ℕ)). line_of_words ws) h.words_are
+    ∙ ap (λ (r : Result Alias NameFault). option_and_then (λ b. Some (Act (Restart b))) (result_ok r)) h.alias_is
+
+crash_read : (line : List ℕ) (a : Alias) (keep : ℕ) → IsCrashLine line a keep → line_of line ≡ Some (Act (Crash a keep))
+unfolding line_of_words crash_line
+crash_read line a keep h =
+    ap (λ (ws : List (List ℕ)). line_of_words ws) h.words
+    ∙ ap (λ (r : Result Alias NameFault). option_and_then (λ b. number_reading h.digits >>= (λ n. Some (Act (Crash b n)))) (result_ok r)) h.alias_is
+    ∙ ap (λ (o : Option ℕ). option_and_then (λ n. Some (Act (Crash a n))) o) (number_reads h.digits keep h.number h.small)
+
+-- the word `control` is no alias
+not_control : (text : List ℕ) (a : Alias) → alias_reading text ≡ Ok a → bytes_eq text (codes "control") ≡ false
+not_control text a is = not_same (bytes_eq text (codes "control")) (λ same. refused (ap (λ (t : List ℕ). alias_reading t) (sym (same_bytes text (codes "control") same)) ∙ is))
+  where
+    refused : alias_reading (codes "control") ≡ Ok a → ⊥
+    refused h = cc
+
+side_is : (text : List ℕ) (s : Side) → IsSide text s → side_reading text ≡ Some s
+unfolding side_reading
+side_is text sides.Control h = ap (λ (t : List ℕ). side_reading t) h
+side_is text (sides.Tablet a) h =
+    ap (λ (b : Bool). cond b (Some sides.Control) (result_ok (alias_reading text) >>= (λ x. Some (sides.Tablet x)))) (not_control text a h)
+    ∙ ap (λ (r : Result Alias NameFault). option_and_then (λ x. Some (sides.Tablet x)) (result_ok r)) h
+
+link_is : (head line : List ℕ) (x y : Side) (h : IsLinkLine head line x y) → link_reading h.x_text h.y_text ≡ Some (record { x = x; y = y })
+unfolding link_reading
+link_is head line x y h =
+    ap (λ (o : Option Side). let r : Option Link = option_and_then (λ a. side_reading h.y_text >>= (λ b. only_if (are_ends a b) (record { x = a; y = b }))) o in r) (side_is h.x_text x h.x_is)
+    ∙ ap (λ (o : Option Side). let r : Option Link = option_and_then (λ b. only_if (are_ends x b) (record { x = x; y = b })) o in r) (side_is h.y_text y h.y_is)
+    ∙ ap (λ (b : Bool). let r : Option Link = cond b (Some (record { x = x; y = y })) None in r) h.ends
+
+cut_read : (line : List ℕ) (x y : Side) → IsLinkLine (codes "cut") line x y → line_of line ≡ Some (Act (Cut x y))
+unfolding line_of_words cut_line
+cut_read line x y h =
+    ap (λ (ws : List (List ℕ)). line_of_words ws) h.words
+    ∙ ap (λ (o : Option Link). option_and_then (λ l. Some (Act (Cut l.x l.y))) o) (link_is (codes "cut") line x y h)
+
+mend_read : (line : List ℕ) (x y : Side) → IsLinkLine (codes "mend") line x y → line_of line ≡ Some (Act (Mend x y))
+unfolding line_of_words mend_line
+mend_read line x y h =
+    ap (λ (ws : List (List ℕ)). line_of_words ws) h.words
+    ∙ ap (λ (o : Option Link). option_and_then (λ l. Some (Act (Mend l.x l.y))) o) (link_is (codes "mend") line x y h)
+
+lose_read : (line : List ℕ) (k : ℕ) → IsMessageLine (codes "lose") line k → line_of line ≡ Some (Act (Lose k))
+unfolding line_of_words lose_line
+lose_read line k h =
+    ap (λ (ws : List (List ℕ)). line_of_words ws) h.words
+    ∙ ap (λ (o : Option ℕ). option_and_then (λ n. Some (Act (Lose n))) o) (number_reads h.digits k h.number h.small)
+
+repeat_read : (line : List ℕ) (k : ℕ) → IsMessageLine (codes "repeat") line k → line_of line ≡ Some (Act (Repeat k))
+unfolding line_of_words repeat_line
+repeat_read line k h =
+    ap (λ (ws : List (List ℕ)). line_of_words ws) h.words
+    ∙ ap (λ (o : Option ℕ). option_and_then (λ n. Some (Act (Repeat n))) o) (number_reads h.digits k h.number h.small)
 
 tick_read : (line : List ℕ) (n : ℕ) → IsTickLine line n → line_of line ≡ Some (Act (Tick n))
 unfolding line_of_words tick_line
@@ -118,10 +191,17 @@ tick_read line n h =
 pub of_says : (line : List ℕ) (x : Line) → Says line x → line_of line ≡ Some x
 of_says line (Shard name) h = shard_read line name h
 of_says line (Tablet t) h = tablet_read line t h
-of_says line (Act (Play (Planned name a) n)) h = planned_read line name a h.0 ∙ ap (λ (k : ℕ). Some (Act (Play (Planned name a) k))) (sym h.1)
-of_says line (Act (Play Write n)) h = write_read line n h
+of_says line (Act (Play command n)) h = play_read line command n h
 of_says line (Act (Start name command)) h = start_read line name command h
 of_says line (Act (Turn name pumps)) h = turn_read line name pumps h
 of_says line (Act (Finish name)) h = finish_read line name h
+of_says line (Act Settle) h = settle_read line h
+of_says line (Act (Local a)) h = local_read line a h
+of_says line (Act (Crash a keep)) h = crash_read line a keep h
+of_says line (Act (Restart a)) h = restart_read line a h
+of_says line (Act (Cut x y)) h = cut_read line x y h
+of_says line (Act (Mend x y)) h = mend_read line x y h
+of_says line (Act (Lose k)) h = lose_read line k h
+of_says line (Act (Repeat k)) h = repeat_read line k h
 of_says line (Act Lapse) h = lapse_read line h
 of_says line (Act (Tick n)) h = tick_read line n h

@@ -78,6 +78,15 @@ number_of text n h =
     let some : nat_le 1 (length text) ≡ true = digits.0 in
     record { some_digit = grind (arith, nat_tests); are_digits = digits.1; value = number.1 }
 
+pub number_small : (text : List ℕ) (n : ℕ) → number_reading text ≡ Some n → n < 2 ^ 64
+unfolding number_reading
+number_small text n h =
+    let number = only_if_some (nat_le 1 (length text) && list_all is_ascii_digit text && nat_lt (digits_value 10 text) (2 ^ 64)) (digits_value 10 text) n h in
+    let sized = and_both (nat_le 1 (length text) && list_all is_ascii_digit text) (nat_lt (digits_value 10 text) (2 ^ 64)) number.0 in
+    let few : nat_lt (digits_value 10 text) (2 ^ 64) ≡ true = sized.1 in
+    let small : digits_value 10 text < 2 ^ 64 = grind (arith, nat_tests) in
+    subst (λ (k : ℕ). k < 2 ^ 64) number.1 small
+
 pub number_reads : (text : List ℕ) (n : ℕ) → IsNumber text n → n < 2 ^ 64 → number_reading text ≡ Some n
 number_reads text n h small =
     sym (number_is text h.some_digit h.are_digits (subst (λ (k : ℕ). k < 2 ^ 64) (sym h.value) small)) ∙ ap (λ (k : ℕ). Some k) h.value

@@ -2,15 +2,16 @@
 use Rattle.std.proofs.Common.{◌≡◌, ℕ, ◌+◌, ◌<◌, ◌≤◌, List, [], ◌∷◌, ◌++◌, Bool, true, false, Option, Some, None, Result, Ok, Err, IfOk, cond, ltb, not, ◌&&◌, length, length-append, append-nil, subst, refl, sym, ap, ◌∙◌, arith}
 use Rattle.std.specs.Prelude.{All, is_some, is_none, ◌==◌, nat_lt, nat_le, ⊤}
 use Rattle.std.specs.Str.{bytes_eq}
-use Rattle.std.proofs.lemmas.Bool.{false≢true}
+use Rattle.std.proofs.lemmas.Bool.{false≢true, eqb-true}
 use Rattle.std.proofs.lemmas.Bool.Decides.{nat_tests}
+use Rattle.std.proofs.lemmas.List.{nil_from_length}
 use Rattle.std.proofs.lemmas.List.Elements.{All-nil, All-cons, All-append}
 use Rattle.std.proofs.lemmas.Slice.Eq.{bytes_eq-Decides}
 use borrow.Author.Tests.{ltb-false}
 use Rattle.shard_names.specs.declared.shard_name.ShardName.{ShardName}
 use Rattle.shard_names.specs.declared.tablet.Tablet.{Tablet as TabletData}
 use Rattle.shard_names.specs.Tablets.{AreTablets}
-use Rattle.shard_core.specs.declared.command.Command.TheVariants.{Planned, Write}
+use Rattle.shard_calls.specs.declared.command.Command.TheVariants.{Planned, Write, Show}
 use Rattle.shard_script.specs.declared.line.Line.{Line}
 use Rattle.shard_script.specs.declared.line.Line.TheVariants.{Shard, Tablet, Act}
 use Rattle.shard_script.specs.declared.script.Action.{Action}
@@ -18,12 +19,14 @@ use Rattle.shard_script.specs.declared.script.Action.TheVariants as actions
 use Rattle.shard_script.specs.declared.script.Script.{Script}
 use Rattle.shard_script.specs.declared.script.ScriptFault.{ScriptFault}
 use Rattle.shard_script.specs.Names.{IsName, has_name, started_by, started, NamesDiffer, IsKnown, AreKnown}
+use Rattle.shard_script.specs.Aliases.{NamesDeclared, are_ends}
 use Rattle.shard_script.specs.Lines.{line_of}
 use Rattle.shard_script.specs.Grammar.{Says}
-use Rattle.shard_script.specs.Script.{Gives, Fits, FitsShard, read_on, read_lines, with_bytes, reading, admits, admits_command, admits_name, admits_action, with_line, has_alias, has_server, is_shard, empty_script, fault_behind, lines_of, ended_lines, first_bytes}
+use Rattle.shard_script.specs.Script.{Gives, Fits, FitsShard, read_on, read_lines, with_bytes, reading, admits, admits_command, admits_name, admits_action, with_line, has_alias, has_server, all_declared, in_place, is_shard, empty_script, fault_behind, lines_of, ended_lines, first_bytes}
 use Rattle.shard_script.proofs.OptionLemmas.{and_both, not_true}
 use Rattle.shard_script.proofs.NameLemmas.{started_more, known_more, differ_more, known_is}
 use Rattle.shard_script.proofs.LineLemmas.{says_of}
+use Rattle.shard_script.proofs.DeclaredLemmas.{names_declared}
 use Rattle.shard_script.proofs.TabletsInOrder.{length-in_place, rises-in_place, apart-in_place}
 
 -- a line past the most that there may be
@@ -39,6 +42,7 @@ record SoFar (place : ℕ) (s : Script) : Type 0 where
   named : s.shard ≡ None → (s.tablets ≡ []) × (s.actions ≡ [])
   actions : All (FitsShard s.shard) s.actions
   few : length s.actions < place
+  declared : All (NamesDeclared s.tablets) s.actions
   starts : s.names ≡ started s.actions
   are_names : All IsName s.names
   few_names : length s.names ≤ 16
@@ -48,10 +52,19 @@ record SoFar (place : ℕ) (s : Script) : Type 0 where
 -- what an action's line says of its numbers and its name
 CountedAction : Action → Type 0
 CountedAction (actions.Play (Planned name a) n) = n ≡ 1
-CountedAction (actions.Play Write n) = (1 ≤ n) × (n ≤ 100)
+CountedAction (actions.Play (Write to) n) = (1 ≤ n) × (n ≤ 100)
+CountedAction (actions.Play (Show a) n) = n ≡ 1
 CountedAction (actions.Start name command) = IsName name
 CountedAction (actions.Turn name pumps) = (1 ≤ pumps) × (pumps ≤ 1000000)
 CountedAction (actions.Finish name) = ⊤
+CountedAction actions.Settle = ⊤
+CountedAction (actions.Local a) = ⊤
+CountedAction (actions.Crash a keep) = ⊤
+CountedAction (actions.Restart a) = ⊤
+CountedAction (actions.Cut x y) = are_ends x y ≡ true
+CountedAction (actions.Mend x y) = are_ends x y ≡ true
+CountedAction (actions.Lose message) = ⊤
+CountedAction (actions.Repeat message) = ⊤
 CountedAction actions.Lapse = ⊤
 CountedAction (actions.Tick milliseconds) = milliseconds ≤ 86400000
 
@@ -65,10 +78,20 @@ unfolding Counted CountedAction
 counted line (Shard name) h = tt
 counted line (Tablet t) h = tt
 counted line (Act (actions.Play (Planned name a) n)) h = h.1
-counted line (Act (actions.Play Write n)) h = (h.from_one, h.to_hundred)
+counted line (Act (actions.Play (Write None) n)) h = (h.from_one, h.to_hundred)
+counted line (Act (actions.Play (Write (Some a)) n)) h = (h.from_one, h.to_hundred)
+counted line (Act (actions.Play (Show a) n)) h = h.1
 counted line (Act (actions.Start name command)) h = h.is_name
 counted line (Act (actions.Turn name pumps)) h = (h.from_one, h.to_million)
 counted line (Act (actions.Finish name)) h = tt
+counted line (Act actions.Settle) h = tt
+counted line (Act (actions.Local a)) h = tt
+counted line (Act (actions.Crash a keep)) h = tt
+counted line (Act (actions.Restart a)) h = tt
+counted line (Act (actions.Cut x y)) h = h.ends
+counted line (Act (actions.Mend x y)) h = h.ends
+counted line (Act (actions.Lose message)) h = tt
+counted line (Act (actions.Repeat message)) h = tt
 counted line (Act actions.Lapse) h = tt
 counted line (Act (actions.Tick milliseconds)) h = h.to_a_day
 
@@ -97,6 +120,7 @@ one_shard place s name h ok =
       named = λ unnamed. absurd (cc);
       actions = subst (λ (xs : List Action). All (FitsShard (Some name)) xs) (sym empty.1) (All-nil (FitsShard (Some name)));
       few = omega (arith, h.few);
+      declared = h.declared;
       starts = h.starts;
       are_names = h.are_names;
       few_names = h.few_names;
@@ -112,6 +136,7 @@ one_tablet place s t h ok =
     let p4 = and_both (is_some s.shard) (length s.actions == 0) p3.0 in
     let room : ltb (length s.tablets) 32 ≡ true = p3.1 in
     let few : length s.tablets < 32 = grind (arith, nat_tests) in
+    let none : s.actions ≡ [] = nil_from_length s.actions (eqb-true (length s.actions) 0 p4.1) in
     record {
       tablets = record {
         in_order = rises-in_place t s.tablets h.tablets.in_order (not_true (has_alias s.tablets t.alias) p2.1);
@@ -121,6 +146,7 @@ one_tablet place s t h ok =
       named = λ unnamed. absurd (some_not s.shard p4.0 unnamed);
       actions = h.actions;
       few = omega (arith, h.few);
+      declared = subst (λ (xs : List Action). All (NamesDeclared (in_place t s.tablets)) xs) (sym none) (All-nil (NamesDeclared (in_place t s.tablets)));
       starts = h.starts;
       are_names = h.are_names;
       few_names = h.few_names;
@@ -131,11 +157,21 @@ one_tablet place s t h ok =
 fits_one : (s : Script) (x : Action) → CountedAction x → admits_action s x ≡ true → FitsShard s.shard x
 unfolding CountedAction
 fits_one s (actions.Play (Planned name a) n) once ok = (shard_is s.shard name ok, once)
-fits_one s (actions.Play Write n) range ok = range
+fits_one s (actions.Play (Write to) n) range ok = range
+fits_one s (actions.Play (Show a) n) once ok = once
 fits_one s (actions.Start name (Planned shard a)) named ok = shard_is s.shard shard (and_both (is_shard s.shard shard) (admits_name s name) ok).0
-fits_one s (actions.Start name Write) named ok = tt
+fits_one s (actions.Start name (Write to)) named ok = tt
+fits_one s (actions.Start name (Show a)) named ok = tt
 fits_one s (actions.Turn name pumps) range ok = range
 fits_one s (actions.Finish name) counts ok = tt
+fits_one s actions.Settle counts ok = tt
+fits_one s (actions.Local a) counts ok = tt
+fits_one s (actions.Crash a keep) counts ok = tt
+fits_one s (actions.Restart a) counts ok = tt
+fits_one s (actions.Cut x y) counts ok = counts
+fits_one s (actions.Mend x y) counts ok = counts
+fits_one s (actions.Lose message) counts ok = tt
+fits_one s (actions.Repeat message) counts ok = tt
 fits_one s actions.Lapse counts ok = tt
 fits_one s (actions.Tick milliseconds) day ok = day
 
@@ -147,6 +183,14 @@ names_of (actions.Play command n) h = All-nil IsName
 names_of (actions.Start name command) h = All-cons IsName name [] h (All-nil IsName)
 names_of (actions.Turn name pumps) h = All-nil IsName
 names_of (actions.Finish name) h = All-nil IsName
+names_of actions.Settle h = All-nil IsName
+names_of (actions.Local a) h = All-nil IsName
+names_of (actions.Crash a keep) h = All-nil IsName
+names_of (actions.Restart a) h = All-nil IsName
+names_of (actions.Cut x y) h = All-nil IsName
+names_of (actions.Mend x y) h = All-nil IsName
+names_of (actions.Lose message) h = All-nil IsName
+names_of (actions.Repeat message) h = All-nil IsName
 names_of actions.Lapse h = All-nil IsName
 names_of (actions.Tick milliseconds) h = All-nil IsName
 
@@ -156,6 +200,14 @@ with_names P s (actions.Play command n) h more ok = subst P (sym (append-nil s.n
 with_names P s (actions.Start name command) h more ok = more name (and_both (admits_command s command) (admits_name s name) ok).1
 with_names P s (actions.Turn name pumps) h more ok = subst P (sym (append-nil s.names)) h
 with_names P s (actions.Finish name) h more ok = subst P (sym (append-nil s.names)) h
+with_names P s actions.Settle h more ok = subst P (sym (append-nil s.names)) h
+with_names P s (actions.Local a) h more ok = subst P (sym (append-nil s.names)) h
+with_names P s (actions.Crash a keep) h more ok = subst P (sym (append-nil s.names)) h
+with_names P s (actions.Restart a) h more ok = subst P (sym (append-nil s.names)) h
+with_names P s (actions.Cut x y) h more ok = subst P (sym (append-nil s.names)) h
+with_names P s (actions.Mend x y) h more ok = subst P (sym (append-nil s.names)) h
+with_names P s (actions.Lose message) h more ok = subst P (sym (append-nil s.names)) h
+with_names P s (actions.Repeat message) h more ok = subst P (sym (append-nil s.names)) h
 with_names P s actions.Lapse h more ok = subst P (sym (append-nil s.names)) h
 with_names P s (actions.Tick milliseconds) h more ok = subst P (sym (append-nil s.names)) h
 
@@ -176,18 +228,28 @@ known_one s (actions.Play command n) ok = tt
 known_one s (actions.Start name command) ok = tt
 known_one s (actions.Turn name pumps) ok = known_is s.names name ok
 known_one s (actions.Finish name) ok = known_is s.names name ok
+known_one s actions.Settle ok = tt
+known_one s (actions.Local a) ok = tt
+known_one s (actions.Crash a keep) ok = tt
+known_one s (actions.Restart a) ok = tt
+known_one s (actions.Cut x y) ok = tt
+known_one s (actions.Mend x y) ok = tt
+known_one s (actions.Lose message) ok = tt
+known_one s (actions.Repeat message) ok = tt
 known_one s actions.Lapse ok = tt
 known_one s (actions.Tick milliseconds) ok = tt
 
 one_action : (place : ℕ) (s : Script) (x : Action) → CountedAction x → SoFar place s → admits s (Act x) ≡ true → SoFar (place + 1) (with_line s (Act x))
 one_action place s x count h ok =
-    let tests = and_both (is_some s.shard) (admits_action s x) ok in
+    let declared = and_both (is_some s.shard && admits_action s x) (all_declared s.tablets x) ok in
+    let tests = and_both (is_some s.shard) (admits_action s x) declared.0 in
     record {
       tablets = h.tablets;
       few_tablets = h.few_tablets;
       named = λ unnamed. absurd (some_not s.shard tests.0 unnamed);
       actions = All-append (FitsShard s.shard) s.actions (x ∷ []) h.actions (All-cons (FitsShard s.shard) x [] (fits_one s x count tests.1) (All-nil (FitsShard s.shard)));
       few = omega (arith, h.few, length-append s.actions (x ∷ []));
+      declared = All-append (NamesDeclared s.tablets) s.actions (x ∷ []) h.declared (All-cons (NamesDeclared s.tablets) x [] (names_declared s.tablets x declared.1) (All-nil (NamesDeclared s.tablets)));
       starts = ap (λ (ns : List (List ℕ)). ns ++ started_by x) h.starts ∙ sym (started_more s.actions x);
       are_names = All-append IsName s.names (started_by x) h.are_names (names_of x count);
       few_names = with_names (λ ns. length ns ≤ 16) s x h.few_names (λ name free. few_with s name free) tests.1;
@@ -228,7 +290,7 @@ on_more place s t l ls false (Some u) past with h got rest = rest u (one_more pl
 fits_on : (place : ℕ) (s t : Script) (ls : List (List ℕ)) → SoFar place s → place ≤ 1001 → read_on place s ls ≡ Ok t → Fits t
 fits_on place s t [] h le got =
     let same : s ≡ t = (let e : Ok s ≡ Ok t = got in cc) in
-    subst (λ (x : Script). Fits x) same (record { tablets = h.tablets; few_tablets = h.few_tablets; named = h.named; actions = h.actions; few_actions = omega (arith, h.few); starts = h.starts; are_names = h.are_names; few_names = h.few_names; names_differ = h.names_differ; known = h.known })
+    subst (λ (x : Script). Fits x) same (record { tablets = h.tablets; few_tablets = h.few_tablets; named = h.named; actions = h.actions; few_actions = omega (arith, h.few); declared = h.declared; starts = h.starts; are_names = h.are_names; few_names = h.few_names; names_differ = h.names_differ; known = h.known })
 fits_on place s t (l ∷ ls) h le got = on_more place s t l ls (ltb 1000 place) (with_bytes s l) refl refl h got (λ u k less more. fits_on (place + 1) u t ls k less more)
 
 opening : SoFar 1 empty_script
@@ -238,6 +300,7 @@ opening = record {
   named = λ unnamed. (refl, refl);
   actions = All-nil (FitsShard None);
   few = omega arith;
+  declared = All-nil (NamesDeclared []);
   starts = refl;
   are_names = All-nil IsName;
   few_names = omega arith;

@@ -12,20 +12,22 @@ use Rattle.shard_names.specs.declared.shard_name.ShardName.{ShardName}
 use Rattle.shard_names.specs.declared.tablet.Tablet.{Tablet as TabletData}
 use Rattle.shard_names.specs.Tablets.{alias_eq, AliasesRise, ServersDiffer}
 use Rattle.shard_names.proofs.TabletLemmas.{alias_eq-Decides, both}
-use Rattle.shard_core.specs.declared.command.Command.{Command}
-use Rattle.shard_core.specs.declared.command.Command.TheVariants.{Planned, Write}
+use Rattle.shard_calls.specs.declared.command.Command.{Command}
+use Rattle.shard_calls.specs.declared.command.Command.TheVariants.{Planned, Write, Show}
 use Rattle.shard_script.specs.declared.line.Line.{Line}
 use Rattle.shard_script.specs.declared.line.Line.TheVariants.{Shard, Tablet, Act}
 use Rattle.shard_script.specs.declared.script.Action.{Action}
 use Rattle.shard_script.specs.declared.script.Action.TheVariants as actions
 use Rattle.shard_script.specs.declared.script.Script.{Script}
 use Rattle.shard_script.specs.Names.{has_name, started_by, started, NamesDiffer, IsKnown, AreKnown}
-use Rattle.shard_script.specs.Script.{read_on, read_lines, with_bytes, admits, admits_command, admits_name, admits_action, with_line, has_alias, has_server, is_shard, shard_eq, in_place, empty_script, reading, lines_of, ended_lines, first_bytes, fault_behind}
+use Rattle.shard_script.specs.Aliases.{NamesDeclared}
+use Rattle.shard_script.specs.Script.{read_on, read_lines, with_bytes, admits, admits_command, admits_name, admits_action, all_declared, with_line, has_alias, has_server, is_shard, shard_eq, in_place, empty_script, reading, lines_of, ended_lines, first_bytes, fault_behind}
 use Rattle.shard_script.specs.Grammar.{IsTabletLine, IsActionLine, Says, AliasesDiffer, IsCommandOf, IsOfShard, IsShardScript, IsScript, Spell, Spells, ReadsAsSpelled}
 use Rattle.shard_script.specs.Grammar.IsScript.{is_empty, is_shard_script}
 use Rattle.shard_script.proofs.NameLemmas.{not_same, or_none, not_before, is_known}
 use Rattle.shard_script.proofs.LineReads.{of_says}
 use Rattle.shard_script.proofs.TabletsInOrder.{any-in_place, rises_once, length-in_place}
+use Rattle.shard_script.proofs.DeclaredLemmas.{are_declared}
 use Rattle.shard_script.proofs.ScriptLemmas.{fits_lines, lines_read}
 use Rattle.shard_script.proofs.GrammarLemmas.{placed, IsNew, permuted_all, spell_of}
 
@@ -84,7 +86,8 @@ same_shard name = both (bytes_eq name.keyspace name.keyspace) (bytes_eq name.sha
 command_admitted : (s : Script) (name : ShardName) (c : Command) → s.shard ≡ Some name → IsCommandOf name c → admits_command s c ≡ true
 command_admitted s name (Planned m a) named of =
     ap (λ (o : Option ShardName). is_shard o m) named ∙ ap (λ (k : ShardName). shard_eq name k) of ∙ same_shard name
-command_admitted s name Write named of = refl
+command_admitted s name (Write to) named of = refl
+command_admitted s name (Show a) named of = refl
 
 -- a name that differs from those before it, where there is room
 name_admitted : (s : Script) (n : List ℕ) (ns : List (List ℕ)) → NamesDiffer (s.names ++ n ∷ ns) → length (s.names ++ n ∷ ns) ≤ 16 → admits_name s n ≡ true
@@ -98,24 +101,33 @@ action_allowed s name (actions.Play c n) ns named of known differ few = command_
 action_allowed s name (actions.Start n c) ns named of known differ few = both (admits_command s c) (admits_name s n) (command_admitted s name c named of) (name_admitted s n ns differ few)
 action_allowed s name (actions.Turn n pumps) ns named of known differ few = is_known s.names n known
 action_allowed s name (actions.Finish n) ns named of known differ few = is_known s.names n known
+action_allowed s name actions.Settle ns named of known differ few = refl
+action_allowed s name (actions.Local a) ns named of known differ few = refl
+action_allowed s name (actions.Crash a keep) ns named of known differ few = refl
+action_allowed s name (actions.Restart a) ns named of known differ few = refl
+action_allowed s name (actions.Cut x y) ns named of known differ few = refl
+action_allowed s name (actions.Mend x y) ns named of known differ few = refl
+action_allowed s name (actions.Lose message) ns named of known differ few = refl
+action_allowed s name (actions.Repeat message) ns named of known differ few = refl
 action_allowed s name actions.Lapse ns named of known differ few = refl
 action_allowed s name (actions.Tick milliseconds) ns named of known differ few = refl
 
-actions_on : (place : ℕ) (s : Script) (name : ShardName) (al : List (List ℕ)) (xs : List Action) → AllZip IsActionLine al xs → s.shard ≡ Some name → All (IsOfShard name) xs → AreKnown s.names xs → NamesDiffer (s.names ++ started xs) → length (s.names ++ started xs) ≤ 16 → place + length al ≤ 1001 → read_on place s al ≡ Ok (record s { names = s.names ++ started xs; actions = s.actions ++ xs })
-actions_on place s name [] [] said named of known differ few lines =
+actions_on : (place : ℕ) (s : Script) (name : ShardName) (al : List (List ℕ)) (xs : List Action) → AllZip IsActionLine al xs → s.shard ≡ Some name → All (IsOfShard name) xs → All (NamesDeclared s.tablets) xs → AreKnown s.names xs → NamesDiffer (s.names ++ started xs) → length (s.names ++ started xs) ≤ 16 → place + length al ≤ 1001 → read_on place s al ≡ Ok (record s { names = s.names ++ started xs; actions = s.actions ++ xs })
+actions_on place s name [] [] said named of declared known differ few lines =
     let names : s.names ≡ s.names ++ [] = sym (append-nil s.names) in
     let done : s.actions ≡ s.actions ++ [] = sym (append-nil s.actions) in
     λ i. Ok (record s { names = names i; actions = done i })
-actions_on place s name [] (x ∷ xs) said named of known differ few lines = absurd said
-actions_on place s name (l ∷ al) [] said named of known differ few lines = absurd said
-actions_on place s name (l ∷ al) (x ∷ xs) said named of known differ few lines =
+actions_on place s name [] (x ∷ xs) said named of declared known differ few lines = absurd said
+actions_on place s name (l ∷ al) [] said named of declared known differ few lines = absurd said
+actions_on place s name (l ∷ al) (x ∷ xs) said named of declared known differ few lines =
     let u : Script = with_line s (Act x) in
-    let ok : admits s (Act x) ≡ true = both (is_some s.shard) (admits_action s x) (ap (λ (o : Option ShardName). is_some o) named) (action_allowed s name x (started xs) named (All-head (IsOfShard name) x xs of) known.0 differ few) in
+    let allowed : (is_some s.shard && admits_action s x) ≡ true = both (is_some s.shard) (admits_action s x) (ap (λ (o : Option ShardName). is_some o) named) (action_allowed s name x (started xs) named (All-head (IsOfShard name) x xs of) known.0 differ few) in
+    let ok : admits s (Act x) ≡ true = both (is_some s.shard && admits_action s x) (all_declared s.tablets x) allowed (are_declared s.tablets x (All-head (NamesDeclared s.tablets) x xs declared)) in
     let names : (s.names ++ started_by x) ++ started xs ≡ s.names ++ (started_by x ++ started xs) = append_assoc s.names (started_by x) (started xs) in
     let join : (s.actions ++ x ∷ []) ++ xs ≡ s.actions ++ x ∷ xs = append_assoc s.actions (x ∷ []) xs in
     let whole : Ok (record s { names = (s.names ++ started_by x) ++ started xs; actions = (s.actions ++ x ∷ []) ++ xs }) ≡ Ok (record s { names = s.names ++ (started_by x ++ started xs); actions = s.actions ++ x ∷ xs }) = λ i. Ok (record s { names = names i; actions = join i }) in
     step_on place s u l al (omega arith) (added_is s l (Act x) said.0 ok)
-    ∙ actions_on (place + 1) u name al xs said.1 named (All-tail (IsOfShard name) x xs of) known.1 (subst NamesDiffer (sym names) differ) (subst (λ (ns : List (List ℕ)). length ns ≤ 16) (sym names) few) (omega arith)
+    ∙ actions_on (place + 1) u name al xs said.1 named (All-tail (IsOfShard name) x xs of) (All-tail (NamesDeclared s.tablets) x xs declared) known.1 (subst NamesDiffer (sym names) differ) (subst (λ (ns : List (List ℕ)). length ns ≤ 16) (sym names) few) (omega arith)
     ∙ whole
 
 -- ---- all lines
@@ -125,16 +137,19 @@ shard_read lines s few g =
     let named : Script = with_line empty_script (Shard g.name) in
     let size : length (g.tablet_lines ++ g.action_lines) ≡ length g.tablet_lines + length g.action_lines = length-append g.tablet_lines g.action_lines in
     let all_lines : length lines ≡ suc (length (g.tablet_lines ++ g.action_lines)) = ap (λ (ls : List (List ℕ)). length ls) g.split in
-    let got : read_lines lines ≡ Ok (record { shard = Some g.name; tablets = placed [] g.declared; names = started s.actions; actions = s.actions }) =
-    ap (λ (ls : List (List ℕ)). read_lines ls) g.split
-    ∙ step_on 1 empty_script named g.first (g.tablet_lines ++ g.action_lines) (omega arith) (added_is empty_script g.first (Shard g.name) g.says_shard refl)
-    ∙ tablets_on 2 named g.name g.tablet_lines g.action_lines g.declared g.say_tablets refl refl (omega (arith, g.few_tablets)) (λ k d lt. record { alias = refl; server = refl }) g.aliases_differ g.servers_differ (omega (arith, few, size, all_lines))
-    ∙ actions_on (2 + length g.tablet_lines) (record named { tablets = placed [] g.declared }) g.name g.action_lines s.actions g.say_actions refl g.of_shard g.known (subst NamesDiffer g.names g.names_differ) (subst (λ (ns : List (List ℕ)). length ns ≤ 16) g.names g.few_names) (omega (arith, few, size, all_lines)) in
-    let rise : AliasesRise (placed [] g.declared) = (fits_lines lines (record { shard = Some g.name; tablets = placed [] g.declared; names = started s.actions; actions = s.actions }) got).tablets.in_order in
+    let tablets : Script = record named { tablets = placed [] g.declared } in
+    let declared : (al : List (List ℕ)) → read_lines (g.first ∷ (g.tablet_lines ++ al)) ≡ read_on (2 + length g.tablet_lines) tablets al = λ al.
+    step_on 1 empty_script named g.first (g.tablet_lines ++ al) (omega arith) (added_is empty_script g.first (Shard g.name) g.says_shard refl)
+    ∙ tablets_on 2 named g.name g.tablet_lines al g.declared g.say_tablets refl refl (omega (arith, g.few_tablets)) (λ k d lt. record { alias = refl; server = refl }) g.aliases_differ g.servers_differ (omega (arith, few, size, all_lines)) in
+    let rise : AliasesRise (placed [] g.declared) = (fits_lines (g.first ∷ (g.tablet_lines ++ [])) tablets (declared [])).tablets.in_order in
     let here = permuted_all g.declared in
     let same : placed [] g.declared ≡ s.tablets = rises_once (placed [] g.declared) s.tablets rise g.in_order
     (λ P h. All-permutation P g.declared s.tablets g.tablets (All-permutation P (placed [] g.declared) g.declared (IsPermutation-sym g.declared (placed [] g.declared) here) h))
     (λ P h. All-permutation P g.declared (placed [] g.declared) here (All-permutation P s.tablets g.declared (IsPermutation-sym g.declared s.tablets g.tablets) h)) in
+    let got : read_lines lines ≡ Ok (record { shard = Some g.name; tablets = placed [] g.declared; names = started s.actions; actions = s.actions }) =
+    ap (λ (ls : List (List ℕ)). read_lines ls) g.split
+    ∙ declared g.action_lines
+    ∙ actions_on (2 + length g.tablet_lines) tablets g.name g.action_lines s.actions g.say_actions refl g.of_shard (subst (λ (ts : List TabletData). All (NamesDeclared ts) s.actions) (sym same) g.are_declared) g.known (subst NamesDiffer g.names g.names_differ) (subst (λ (ns : List (List ℕ)). length ns ≤ 16) g.names g.few_names) (omega (arith, few, size, all_lines)) in
     let shard : Some g.name ≡ s.shard = sym g.shard in
     let names : started s.actions ≡ s.names = sym g.names in
     let whole : record { shard = Some g.name; tablets = placed [] g.declared; names = started s.actions; actions = s.actions } ≡ s = λ i. record { shard = shard i; tablets = same i; names = names i; actions = s.actions } in

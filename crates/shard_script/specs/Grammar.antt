@@ -1,5 +1,5 @@
 -- The grammar of a script: what each line says, and which lines make a script. The words of a line are parted by single spaces.
-use Rattle.std.specs.Prelude.{◌≡◌, ◌≢◌, ◌↔◌, ℕ, ◌+◌, ◌-◌, ◌*◌, ◌<◌, ◌≤◌, List, [], ◌∷◌, ◌++◌, true, Some, Ok, Err, length, take, All, codes, ⊤}
+use Rattle.std.specs.Prelude.{◌≡◌, ◌≢◌, ◌↔◌, ℕ, ◌+◌, ◌-◌, ◌*◌, ◌^◌, ◌<◌, ◌≤◌, List, [], ◌∷◌, ◌++◌, true, Some, None, Ok, Err, length, take, All, codes, ⊤}
 use Rattle.std.specs.Char.{is_ascii_digit}
 use Rattle.std.specs.List.{list_all, AllZip}
 use Rattle.std.specs.List.Sorted.{IsPermutation}
@@ -12,14 +12,17 @@ use Rattle.shard_names.specs.declared.tablet.Tablet.{Tablet as TabletData}
 use Rattle.shard_names.specs.declared.tablet.TabletType.{TabletType}
 use Rattle.shard_names.specs.declared.tablet.TabletType.TheVariants.{Replica, Rdonly, Spare}
 use Rattle.shard_names.specs.Tablets.{AliasesRise, ServersDiffer}
-use Rattle.shard_core.specs.declared.command.Command.{Command}
-use Rattle.shard_core.specs.declared.command.Command.TheVariants.{Planned, Write}
+use Rattle.shard_calls.specs.declared.command.Command.{Command}
+use Rattle.shard_calls.specs.declared.command.Command.TheVariants.{Planned, Write, Show}
+use Rattle.shard_calls.specs.declared.event.Side.{Side}
+use Rattle.shard_calls.specs.declared.event.Side.TheVariants as sides
 use Rattle.shard_script.specs.declared.line.Line.{Line}
 use Rattle.shard_script.specs.declared.line.Line.TheVariants.{Shard, Tablet, Act}
 use Rattle.shard_script.specs.declared.script.Action.{Action}
 use Rattle.shard_script.specs.declared.script.Action.TheVariants as actions
 use Rattle.shard_script.specs.declared.script.Script.{Script}
 use Rattle.shard_script.specs.Names.{IsName, started, NamesDiffer, AreKnown}
+use Rattle.shard_script.specs.Aliases.{NamesDeclared, are_ends}
 use Rattle.shard_script.specs.Lines.{words_of, server_reading}
 use Rattle.shard_script.specs.Script.{empty_script, lines_of, ended_lines, first_bytes, reading}
 
@@ -67,10 +70,28 @@ pub record IsWrite (words : List (List ℕ)) (count : ℕ) : Type 0 where
   pub from_one : 1 ≤ count
   pub to_hundred : count ≤ 100
 
+-- `write N to ALIAS`: N from 1 to 100
+pub record IsWriteTo (words : List (List ℕ)) (alias : Alias) (count : ℕ) : Type 0 where
+  pub digits : List ℕ
+  pub alias_text : List ℕ
+  pub words_are : words ≡ codes "write" ∷ digits ∷ codes "to" ∷ alias_text ∷ []
+  pub number : IsNumber digits count
+  pub from_one : 1 ≤ count
+  pub to_hundred : count ≤ 100
+  pub alias_is : alias_reading alias_text ≡ Ok alias
+
+-- a word and ALIAS
+pub record IsOfTablet (head : List ℕ) (words : List (List ℕ)) (alias : Alias) : Type 0 where
+  pub alias_text : List ℕ
+  pub words_are : words ≡ head ∷ alias_text ∷ []
+  pub alias_is : alias_reading alias_text ≡ Ok alias
+
 -- the words of a command that is given so many times
 abbrev pub IsCommand : List (List ℕ) → Command → ℕ → Type 0
 IsCommand words (Planned name a) n = IsPlanned words name a × (n ≡ 1)
-IsCommand words Write n = IsWrite words n
+IsCommand words (Write None) n = IsWrite words n
+IsCommand words (Write (Some a)) n = IsWriteTo words a n
+IsCommand words (Show a) n = IsOfTablet (codes "show") words a × (n ≡ 1)
 
 -- `start NAME COMMAND`: a command that is given once
 pub record IsStartLine (line name : List ℕ) (command : Command) : Type 0 where
@@ -92,6 +113,10 @@ pub record IsTurnLine (line name : List ℕ) (pumps : ℕ) : Type 0 where
 pub record IsFinishLine (line name : List ℕ) : Type 0 where
   pub words : words_of line ≡ codes "finish" ∷ name ∷ []
   pub is_name : IsName name
+
+-- `settle`
+abbrev pub IsSettleLine : List ℕ → Type 0
+IsSettleLine line = words_of line ≡ codes "settle" ∷ []
 
 -- `lapse`
 abbrev pub IsLapseLine : List ℕ → Type 0
@@ -116,12 +141,50 @@ pub record IsTickLine (line : List ℕ) (milliseconds : ℕ) : Type 0 where
   pub value : count * unit ≡ milliseconds
   pub to_a_day : milliseconds ≤ 86400000
 
+-- `crash ALIAS keep N`: a number of 64 bits
+pub record IsCrashLine (line : List ℕ) (alias : Alias) (keep : ℕ) : Type 0 where
+  pub alias_text : List ℕ
+  pub digits : List ℕ
+  pub words : words_of line ≡ codes "crash" ∷ alias_text ∷ codes "keep" ∷ digits ∷ []
+  pub alias_is : alias_reading alias_text ≡ Ok alias
+  pub number : IsNumber digits keep
+  pub small : keep < 2 ^ 64
+
+-- `control` or ALIAS
+abbrev pub IsSide : List ℕ → Side → Type 0
+IsSide text sides.Control = text ≡ codes "control"
+IsSide text (sides.Tablet a) = alias_reading text ≡ Ok a
+
+-- a word and the two ends of a link
+pub record IsLinkLine (head line : List ℕ) (x y : Side) : Type 0 where
+  pub x_text : List ℕ
+  pub y_text : List ℕ
+  pub words : words_of line ≡ head ∷ x_text ∷ y_text ∷ []
+  pub x_is : IsSide x_text x
+  pub y_is : IsSide y_text y
+  pub ends : are_ends x y ≡ true
+
+-- a word and a message's number, of 64 bits
+pub record IsMessageLine (head line : List ℕ) (message : ℕ) : Type 0 where
+  pub digits : List ℕ
+  pub words : words_of line ≡ head ∷ digits ∷ []
+  pub number : IsNumber digits message
+  pub small : message < 2 ^ 64
+
 -- a line that asks for an action
 abbrev pub IsActionLine : List ℕ → Action → Type 0
 IsActionLine line (actions.Play command n) = IsCommand (words_of line) command n
 IsActionLine line (actions.Start name command) = IsStartLine line name command
 IsActionLine line (actions.Turn name pumps) = IsTurnLine line name pumps
 IsActionLine line (actions.Finish name) = IsFinishLine line name
+IsActionLine line actions.Settle = IsSettleLine line
+IsActionLine line (actions.Local a) = IsOfTablet (codes "local") (words_of line) a
+IsActionLine line (actions.Crash a keep) = IsCrashLine line a keep
+IsActionLine line (actions.Restart a) = IsOfTablet (codes "restart") (words_of line) a
+IsActionLine line (actions.Cut x y) = IsLinkLine (codes "cut") line x y
+IsActionLine line (actions.Mend x y) = IsLinkLine (codes "mend") line x y
+IsActionLine line (actions.Lose message) = IsMessageLine (codes "lose") line message
+IsActionLine line (actions.Repeat message) = IsMessageLine (codes "repeat") line message
 IsActionLine line actions.Lapse = IsLapseLine line
 IsActionLine line (actions.Tick milliseconds) = IsTickLine line milliseconds
 
@@ -141,13 +204,22 @@ AliasesDiffer (t ∷ ts) = All (λ u. t.alias ≢ u.alias) ts × AliasesDiffer t
 -- a reparent is of this shard
 abbrev pub IsCommandOf : ShardName → Command → Type 0
 IsCommandOf name (Planned n a) = n ≡ name
-IsCommandOf name Write = ⊤
+IsCommandOf name (Write to) = ⊤
+IsCommandOf name (Show a) = ⊤
 
 abbrev pub IsOfShard : ShardName → Action → Type 0
 IsOfShard name (actions.Play command n) = IsCommandOf name command
 IsOfShard name (actions.Start starter command) = IsCommandOf name command
 IsOfShard name (actions.Turn starter pumps) = ⊤
 IsOfShard name (actions.Finish starter) = ⊤
+IsOfShard name actions.Settle = ⊤
+IsOfShard name (actions.Local a) = ⊤
+IsOfShard name (actions.Crash a keep) = ⊤
+IsOfShard name (actions.Restart a) = ⊤
+IsOfShard name (actions.Cut x y) = ⊤
+IsOfShard name (actions.Mend x y) = ⊤
+IsOfShard name (actions.Lose message) = ⊤
+IsOfShard name (actions.Repeat message) = ⊤
 IsOfShard name actions.Lapse = ⊤
 IsOfShard name (actions.Tick milliseconds) = ⊤
 
@@ -172,6 +244,8 @@ pub record IsShardScript (lines : List (List ℕ)) (s : Script) : Type 0 where
   pub aliases_differ : AliasesDiffer declared
   pub servers_differ : ServersDiffer declared
   pub of_shard : All (IsOfShard name) s.actions
+  -- where an action names a tablet, but for the new primary of a reparent, it is declared
+  pub are_declared : All (NamesDeclared s.tablets) s.actions
   -- the names that are started, in order: at most 16 that all differ, and `turn` and `finish` behind the start of their name
   pub names : s.names ≡ started s.actions
   pub few_names : length s.names ≤ 16

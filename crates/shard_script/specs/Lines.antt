@@ -4,18 +4,22 @@ use Rattle.std.specs.List.{slice_split}
 use Rattle.std.specs.Result.{result_ok}
 use Rattle.std.specs.Str.{bytes_eq}
 use Rattle.uuid.specs.Text.{parsed}
-use Rattle.shard_base.specs.Options.{◌>>=◌}
+use Rattle.shard_base.specs.Options.{◌>>=◌, only_if}
 use Rattle.shard_names.specs.Alias.{alias_reading}
 use Rattle.shard_names.specs.ShardName.{shard_name_reading}
 use Rattle.shard_names.specs.declared.tablet.TabletType.{TabletType}
 use Rattle.shard_names.specs.declared.tablet.TabletType.TheVariants.{Replica, Spare}
-use Rattle.shard_core.specs.declared.command.Command.{Command}
-use Rattle.shard_core.specs.declared.command.Command.TheVariants.{Planned, Write}
+use Rattle.shard_calls.specs.declared.event.Link.{Link}
+use Rattle.shard_calls.specs.declared.event.Side.{Side}
+use Rattle.shard_calls.specs.declared.event.Side.TheVariants as sides
+use Rattle.shard_script.specs.declared.command.Given.{Given}
 use Rattle.shard_script.specs.declared.line.Line.{Line}
 use Rattle.shard_script.specs.declared.line.Line.TheVariants.{Shard, Tablet, Act}
-use Rattle.shard_script.specs.declared.script.Action.TheVariants.{Play, Start, Turn, Finish, Lapse, Tick}
-use Rattle.shard_script.specs.Numbers.{number_within, duration_reading}
+use Rattle.shard_script.specs.declared.script.Action.TheVariants.{Play, Start, Turn, Finish, Settle, Local, Crash, Restart, Cut, Mend, Lose, Repeat, Lapse, Tick}
+use Rattle.shard_script.specs.Numbers.{number_reading, number_within, duration_reading}
 use Rattle.shard_script.specs.Names.{name_reading}
+use Rattle.shard_script.specs.Aliases.{are_ends}
+use Rattle.shard_script.specs.Commands.{command_of_two, command_of_four}
 
 -- the parts between separators
 abbrev pub parts_of : ℕ → List ℕ → List (List ℕ)
@@ -48,37 +52,16 @@ tablet_line alias kind server = do
   s ← server_reading server
   Some (Tablet (record { alias = a; server = s; kind = k }))
 
--- the words of `PlannedReparentShard K/S --new-primary ALIAS` behind the first
-unfoldable pub planned_command : List ℕ → List ℕ → List ℕ → Option Command
-planned_command name option alias = if bytes_eq option (codes "--new-primary")
-    then (do
-      n ← shard_name_reading name
-      a ← result_ok (alias_reading alias)
-      Some (Planned n a)) else None
+-- COMMAND
+unfoldable pub play_line : Option Given → Option Line
+play_line given = given >>= (λ g. Some (Act (Play g.command g.count)))
 
--- `PlannedReparentShard K/S --new-primary ALIAS`
-unfoldable pub planned_line : List ℕ → List ℕ → List ℕ → Option Line
-planned_line name option alias = planned_command name option alias >>= (λ c. Some (Act (Play c 1)))
-
--- `write N`
-unfoldable pub write_line : List ℕ → Option Line
-write_line count = number_within 1 100 count >>= (λ n. Some (Act (Play Write n)))
-
--- `start NAME write 1`
-unfoldable pub start_write_line : List ℕ → List ℕ → List ℕ → Option Line
-start_write_line name head count = if bytes_eq head (codes "write")
-    then (do
-      n ← name_reading name
-      k ← number_within 1 1 count
-      Some (Act (Start n Write))) else None
-
--- `start NAME PlannedReparentShard K/S --new-primary ALIAS`
-unfoldable pub start_planned_line : List ℕ → List ℕ → List ℕ → List ℕ → List ℕ → Option Line
-start_planned_line name head shard option alias = if bytes_eq head (codes "PlannedReparentShard")
-    then (do
-      n ← name_reading name
-      c ← planned_command shard option alias
-      Some (Act (Start n c))) else None
+-- `start NAME COMMAND`
+unfoldable pub start_line : List ℕ → Option Given → Option Line
+start_line name given = do
+  n ← name_reading name
+  g ← given
+  only_if (g.count == 1) (Act (Start n g.command))
 
 -- `turn NAME K`
 unfoldable pub turn_line : List ℕ → List ℕ → Option Line
@@ -95,36 +78,93 @@ finish_line name = name_reading name >>= (λ n. Some (Act (Finish n)))
 unfoldable pub tick_line : List ℕ → Option Line
 tick_line duration = duration_reading duration >>= (λ n. Some (Act (Tick n)))
 
+-- `local ALIAS`
+unfoldable pub local_line : List ℕ → Option Line
+local_line alias = result_ok (alias_reading alias) >>= (λ a. Some (Act (Local a)))
+
+-- `crash ALIAS keep N`
+unfoldable pub crash_line : List ℕ → List ℕ → List ℕ → Option Line
+crash_line alias keep count = if bytes_eq keep (codes "keep")
+    then (do
+      a ← result_ok (alias_reading alias)
+      n ← number_reading count
+      Some (Act (Crash a n))) else None
+
+-- `restart ALIAS`
+unfoldable pub restart_line : List ℕ → Option Line
+restart_line alias = result_ok (alias_reading alias) >>= (λ a. Some (Act (Restart a)))
+
+-- an end of a link
+unfoldable pub side_reading : List ℕ → Option Side
+side_reading text = if bytes_eq text (codes "control") then Some sides.Control
+    else result_ok (alias_reading text) >>= (λ a. Some (sides.Tablet a))
+
+-- two ends of a link
+unfoldable pub link_reading : List ℕ → List ℕ → Option Link
+link_reading a b = do
+  x ← side_reading a
+  y ← side_reading b
+  only_if (are_ends x y) (record { x = x; y = y })
+
+-- `cut A B`
+unfoldable pub cut_line : List ℕ → List ℕ → Option Line
+cut_line a b = link_reading a b >>= (λ l. Some (Act (Cut l.x l.y)))
+
+-- `mend A B`
+unfoldable pub mend_line : List ℕ → List ℕ → Option Line
+mend_line a b = link_reading a b >>= (λ l. Some (Act (Mend l.x l.y)))
+
+-- `lose K`
+unfoldable pub lose_line : List ℕ → Option Line
+lose_line message = number_reading message >>= (λ k. Some (Act (Lose k)))
+
+-- `repeat K`
+unfoldable pub repeat_line : List ℕ → Option Line
+repeat_line message = number_reading message >>= (λ k. Some (Act (Repeat k)))
+
 -- ---- by the number of words
 
 abbrev pub word : List (List ℕ) → ℕ → List ℕ
 word words k = slice_index_or words k []
 
 abbrev pub one_word : List ℕ → Option Line
-one_word head = if bytes_eq head (codes "lapse") then Some (Act Lapse) else None
+one_word head =
+    if bytes_eq head (codes "lapse") then Some (Act Lapse)
+    else if bytes_eq head (codes "settle") then Some (Act Settle)
+    else None
+
+-- what is done to a tablet or a message, or a command
+abbrev pub tablet_or_message : List ℕ → List ℕ → Option Line
+tablet_or_message head a =
+    if bytes_eq head (codes "local") then local_line a
+    else if bytes_eq head (codes "restart") then restart_line a
+    else if bytes_eq head (codes "lose") then lose_line a
+    else if bytes_eq head (codes "repeat") then repeat_line a
+    else play_line (command_of_two head a)
 
 abbrev pub two_words : List ℕ → List ℕ → Option Line
 two_words head a =
-    if bytes_eq head (codes "write") then write_line a
-    else if bytes_eq head (codes "finish") then finish_line a
+    if bytes_eq head (codes "finish") then finish_line a
     else if bytes_eq head (codes "tick") then tick_line a
-    else None
+    else tablet_or_message head a
 
 abbrev pub three_words : List ℕ → List ℕ → List ℕ → Option Line
 three_words head a b =
     if bytes_eq head (codes "shard") then shard_line a b
     else if bytes_eq head (codes "turn") then turn_line a b
+    else if bytes_eq head (codes "cut") then cut_line a b
+    else if bytes_eq head (codes "mend") then mend_line a b
     else None
 
 abbrev pub four_words : List ℕ → List ℕ → List ℕ → List ℕ → Option Line
 four_words head a b c =
     if bytes_eq head (codes "tablet") then tablet_line a b c
-    else if bytes_eq head (codes "PlannedReparentShard") then planned_line a b c
-    else if bytes_eq head (codes "start") then start_write_line a b c
-    else None
+    else if bytes_eq head (codes "crash") then crash_line a b c
+    else if bytes_eq head (codes "start") then start_line a (command_of_two b c)
+    else play_line (command_of_four head a b c)
 
 abbrev pub six_words : List ℕ → List ℕ → List ℕ → List ℕ → List ℕ → List ℕ → Option Line
-six_words head a b c d e = if bytes_eq head (codes "start") then start_planned_line a b c d e else None
+six_words head a b c d e = if bytes_eq head (codes "start") then start_line a (command_of_four b c d e) else None
 
 unfoldable pub line_of_words : List (List ℕ) → Option Line
 line_of_words words =

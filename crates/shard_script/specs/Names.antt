@@ -5,7 +5,7 @@ use Rattle.std.specs.Str.{bytes_eq}
 use Rattle.shard_base.specs.Options.{only_if}
 use Rattle.shard_names.specs.Alias.{is_cell_byte}
 use Rattle.shard_script.specs.declared.script.Action.{Action}
-use Rattle.shard_script.specs.declared.script.Action.TheVariants.{Play, Start, Turn, Finish, Lapse, Tick}
+use Rattle.shard_script.specs.declared.script.Action.TheVariants.{Play, Start, Turn, Finish, Settle, Local, Crash, Restart, Cut, Mend, Lose, Repeat, Lapse, Tick}
 
 -- a byte that a cell may have
 unfoldable pub is_name_byte : ℕ → Bool
@@ -38,6 +38,14 @@ started_by (Play command n) = []
 started_by (Start name command) = name ∷ []
 started_by (Turn name pumps) = []
 started_by (Finish name) = []
+started_by Settle = []
+started_by (Local a) = []
+started_by (Crash a keep) = []
+started_by (Restart a) = []
+started_by (Cut x y) = []
+started_by (Mend x y) = []
+started_by (Lose message) = []
+started_by (Repeat message) = []
 started_by Lapse = []
 started_by (Tick milliseconds) = []
 
@@ -57,6 +65,14 @@ IsKnown names (Play command n) = ⊤
 IsKnown names (Start name command) = ⊤
 IsKnown names (Turn name pumps) = Contains names name
 IsKnown names (Finish name) = Contains names name
+IsKnown names Settle = ⊤
+IsKnown names (Local a) = ⊤
+IsKnown names (Crash a keep) = ⊤
+IsKnown names (Restart a) = ⊤
+IsKnown names (Cut x y) = ⊤
+IsKnown names (Mend x y) = ⊤
+IsKnown names (Lose message) = ⊤
+IsKnown names (Repeat message) = ⊤
 IsKnown names Lapse = ⊤
 IsKnown names (Tick milliseconds) = ⊤
 

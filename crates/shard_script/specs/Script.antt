@@ -1,14 +1,14 @@
 -- A script, and the fold over its lines that reads it. Its commands are those of vtctldclient (Vitess manual).
 use Rattle.std.specs.Prelude.{◌≡◌, ℕ, ◌+◌, ◌-◌, ◌≤◌, List, [], ◌∷◌, ◌++◌, Bool, true, false, ◌&&◌, not, ◌==◌, nat_lt, nat_le, Option, Some, None, is_some, is_none, Result, Ok, Err, if◌then◌else◌, length, take, slice_index_or, position, unwrap_or, All, ⊤}
-use Rattle.std.specs.List.{list_any}
+use Rattle.std.specs.List.{list_any, list_all}
 use Rattle.std.specs.Str.{bytes_eq}
 use Rattle.std.specs.Ordering.{is_lt}
 use Rattle.shard_names.specs.Tablets.{alias_eq, alias_cmp, AreTablets}
 use Rattle.shard_names.specs.declared.alias.Alias.{Alias}
 use Rattle.shard_names.specs.declared.shard_name.ShardName.{ShardName}
 use Rattle.shard_names.specs.declared.tablet.Tablet.{Tablet as TabletData}
-use Rattle.shard_core.specs.declared.command.Command.{Command}
-use Rattle.shard_core.specs.declared.command.Command.TheVariants.{Planned, Write}
+use Rattle.shard_calls.specs.declared.command.Command.{Command}
+use Rattle.shard_calls.specs.declared.command.Command.TheVariants.{Planned, Write, Show}
 use Rattle.shard_script.specs.declared.line.Line.{Line}
 use Rattle.shard_script.specs.declared.line.Line.TheVariants.{Shard, Tablet, Act}
 use Rattle.shard_script.specs.declared.script.Action.{Action}
@@ -17,6 +17,7 @@ use Rattle.shard_script.specs.declared.script.Script.{Script}
 use Rattle.shard_script.specs.declared.script.ScriptFault.{ScriptFault}
 use Rattle.shard_script.specs.declared.script.ScriptFault.TheVariants as faults
 use Rattle.shard_script.specs.Names.{IsName, has_name, started_by, started, NamesDiffer, AreKnown}
+use Rattle.shard_script.specs.Aliases.{aliases_of, NamesDeclared, are_ends}
 use Rattle.shard_script.specs.Lines.{parts_of, line_of}
 
 -- whether a tablet has this alias
@@ -56,11 +57,16 @@ admits_tablet s t =
 -- a reparent is of the declared shard
 abbrev pub admits_command : Script → Command → Bool
 admits_command s (Planned name a) = is_shard s.shard name
-admits_command s Write = true
+admits_command s (Write to) = true
+admits_command s (Show a) = true
 
 -- a name is started once, as one of at most 16
 abbrev pub admits_name : Script → List ℕ → Bool
 admits_name s name = nat_lt (length s.names) 16 && not (has_name s.names name)
+
+-- whether the tablets that an action names are among these
+abbrev pub all_declared : List TabletData → Action → Bool
+all_declared tablets x = list_all (has_alias tablets) (aliases_of x)
 
 -- whether an action may stand behind the shard and the actions so far
 abbrev pub admits_action : Script → Action → Bool
@@ -68,6 +74,14 @@ admits_action s (actions.Play command n) = admits_command s command
 admits_action s (actions.Start name command) = admits_command s command && admits_name s name
 admits_action s (actions.Turn name pumps) = has_name s.names name
 admits_action s (actions.Finish name) = has_name s.names name
+admits_action s actions.Settle = true
+admits_action s (actions.Local a) = true
+admits_action s (actions.Crash a keep) = true
+admits_action s (actions.Restart a) = true
+admits_action s (actions.Cut x y) = true
+admits_action s (actions.Mend x y) = true
+admits_action s (actions.Lose message) = true
+admits_action s (actions.Repeat message) = true
 admits_action s actions.Lapse = true
 admits_action s (actions.Tick milliseconds) = true
 
@@ -75,7 +89,7 @@ admits_action s (actions.Tick milliseconds) = true
 abbrev pub admits : Script → Line → Bool
 admits s (Shard name) = is_none s.shard
 admits s (Tablet t) = admits_tablet s t
-admits s (Act action) = is_some s.shard && admits_action s action
+admits s (Act action) = is_some s.shard && admits_action s action && all_declared s.tablets action
 
 abbrev pub with_line : Script → Line → Script
 with_line s (Shard name) = record s { shard = Some name }
@@ -141,14 +155,25 @@ Gives (Ok s) r = r ≡ Ok s
 Gives (Err (faults.Line place)) r = r ≡ Err place
 Gives (Err faults.OutOfMemory) r = ⊤
 
--- A reparent is of the declared shard. It is given once, and a write 1 to 100 times. A turn is of 1 to 1,000,000 events, and at most a day goes by.
+-- A reparent is of the declared shard. It is given once, as a show is, and a write 1 to 100 times. A turn is of 1 to 1,000,000 events, and at most a day
+-- goes by. A link has two ends of which one is a tablet.
 abbrev pub FitsShard : Option ShardName → Action → Type 0
 FitsShard shard (actions.Play (Planned name a) n) = (shard ≡ Some name) × (n ≡ 1)
-FitsShard shard (actions.Play Write n) = (1 ≤ n) × (n ≤ 100)
+FitsShard shard (actions.Play (Write to) n) = (1 ≤ n) × (n ≤ 100)
+FitsShard shard (actions.Play (Show a) n) = n ≡ 1
 FitsShard shard (actions.Start starter (Planned name a)) = shard ≡ Some name
-FitsShard shard (actions.Start starter Write) = ⊤
+FitsShard shard (actions.Start starter (Write to)) = ⊤
+FitsShard shard (actions.Start starter (Show a)) = ⊤
 FitsShard shard (actions.Turn name pumps) = (1 ≤ pumps) × (pumps ≤ 1000000)
 FitsShard shard (actions.Finish name) = ⊤
+FitsShard shard actions.Settle = ⊤
+FitsShard shard (actions.Local a) = ⊤
+FitsShard shard (actions.Crash a keep) = ⊤
+FitsShard shard (actions.Restart a) = ⊤
+FitsShard shard (actions.Cut x y) = are_ends x y ≡ true
+FitsShard shard (actions.Mend x y) = are_ends x y ≡ true
+FitsShard shard (actions.Lose message) = ⊤
+FitsShard shard (actions.Repeat message) = ⊤
 FitsShard shard actions.Lapse = ⊤
 FitsShard shard (actions.Tick milliseconds) = milliseconds ≤ 86400000
 
@@ -159,6 +184,8 @@ pub record Fits (s : Script) : Type 0 where
   pub named : s.shard ≡ None → (s.tablets ≡ []) × (s.actions ≡ [])
   pub actions : All (FitsShard s.shard) s.actions
   pub few_actions : length s.actions ≤ 1000
+  -- where an action names a tablet that has to be declared, it is
+  pub declared : All (NamesDeclared s.tablets) s.actions
   -- the names are those that the actions start, at most 16 that differ
   pub starts : s.names ≡ started s.actions
   pub are_names : All IsName s.names

@@ -1,6 +1,7 @@
 //! The language of shard scripts: how a text is read, and what its grammar says.
 #![tactic(auto)]
 
+mod command;
 mod law;
 mod line;
 mod number;

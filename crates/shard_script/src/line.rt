@@ -1,12 +1,15 @@
 ghost use Rattle.std.specs.Prelude.{◌≡◌, ◌==◌, map, length, IfOk};
 ghost use Rattle.std.specs.List.{list_all};
 ghost use Rattle.shard_script.specs.Names.{is_name_byte, is_taken, name_reading};
-ghost use Rattle.shard_script.specs.Lines.{parts_of, server_reading, kind_reading, shard_line, tablet_line, planned_command, planned_line, write_line, start_write_line, start_planned_line, turn_line, finish_line, tick_line, one_word, two_words, three_words, four_words, six_words, line_of_words, line_of};
+ghost use Rattle.shard_script.specs.Aliases.{are_ends};
+ghost use Rattle.shard_script.specs.Commands.{command_of_two, command_of_four};
+ghost use Rattle.shard_script.specs.Lines.{parts_of, server_reading, kind_reading, shard_line, tablet_line, play_line, start_line, turn_line, finish_line, tick_line, local_line, crash_line, restart_line, side_reading, link_reading, cut_line, mend_line, lose_line, repeat_line, one_word, tablet_or_message, two_words, three_words, four_words, six_words, line_of_words, line_of};
 
-use crate::number::{read_duration, read_within};
+use crate::command::{Given, command_of_four, command_of_two};
+use crate::number::{read_duration, read_number, read_within};
 use crate::script::Action;
 use shard_base::{OutOfMemory, Text};
-use shard_core::Command;
+use shard_calls::{Link, Side};
 use shard_names::{Alias, Name, ShardName, Tablet, TabletType};
 use std::alloc::{AllocError, Global};
 use uuid::Uuid;
@@ -102,75 +105,33 @@ fn tablet_line(alias: &[u8], kind: &[u8], server: &[u8]) -> Option<Line>
     })
 }
 
-#[tactic(auto, unfolding(crate::specs::Lines::planned_command))]
-fn planned_command(name: &[u8], option: &[u8], alias: &[u8]) -> Option<Command>
-    ensures { result ≡ planned_command name.now option.now alias.now }
+#[tactic(auto, unfolding(crate::specs::Lines::play_line))]
+fn play_line(given: Option<Given>) -> Option<Line>
+    ensures { result ≡ play_line given }
 {
-    if option != b"--new-primary".as_slice() {
-        return None;
-    }
-    let shard = ShardName::read(name)?;
-    let new_primary = Alias::read(alias).ok()?;
-    Some(Command::Planned { shard, new_primary })
-}
-
-#[tactic(auto, unfolding(crate::specs::Lines::planned_line))]
-fn planned_line(name: &[u8], option: &[u8], alias: &[u8]) -> Option<Line>
-    ensures { result ≡ planned_line name.now option.now alias.now }
-{
-    let command = planned_command(name, option, alias)?;
-    Some(Line::Act {
-        action: Action::Play { command, count: 1 },
-    })
-}
-
-#[tactic(auto, unfolding(crate::specs::Lines::write_line))]
-fn write_line(count: &[u8]) -> Option<Line>
-    ensures { result ≡ write_line count.now }
-{
-    let count = read_within(count, 1, 100)?;
+    let given = given?;
     Some(Line::Act {
         action: Action::Play {
-            command: Command::Write,
-            count,
+            command: given.command,
+            count: given.count,
         },
     })
 }
 
-#[tactic(auto, unfolding(crate::specs::Lines::start_write_line))]
-fn start_write_line(name: &[u8], head: &[u8], count: &[u8]) -> Option<Line>
-    ensures { result ≡ start_write_line name.now head.now count.now }
+#[tactic(auto, unfolding(crate::specs::Lines::start_line))]
+fn start_line(name: &[u8], given: Option<Given>) -> Option<Line>
+    ensures { result ≡ start_line name.now given }
 {
-    if head != b"write".as_slice() {
+    let name = read_name(name)?;
+    let given = given?;
+    if given.count != 1 {
         return None;
     }
-    let name = read_name(name)?;
-    let _once = read_within(count, 1, 1)?;
     Some(Line::Act {
         action: Action::Start {
             name,
-            command: Command::Write,
+            command: given.command,
         },
-    })
-}
-
-#[tactic(auto, unfolding(crate::specs::Lines::start_planned_line))]
-fn start_planned_line(
-    name: &[u8],
-    head: &[u8],
-    shard: &[u8],
-    option: &[u8],
-    alias: &[u8],
-) -> Option<Line>
-    ensures { result ≡ start_planned_line name.now head.now shard.now option.now alias.now }
-{
-    if head != b"PlannedReparentShard".as_slice() {
-        return None;
-    }
-    let name = read_name(name)?;
-    let command = planned_command(shard, option, alias)?;
-    Some(Line::Act {
-        action: Action::Start { name, command },
     })
 }
 
@@ -205,6 +166,127 @@ fn tick_line(duration: &[u8]) -> Option<Line>
     })
 }
 
+#[tactic(auto, unfolding(crate::specs::Lines::local_line))]
+fn local_line(alias: &[u8]) -> Option<Line>
+    ensures { result ≡ local_line alias.now }
+{
+    let alias = Alias::read(alias).ok()?;
+    Some(Line::Act {
+        action: Action::Local { alias },
+    })
+}
+
+#[tactic(auto, unfolding(crate::specs::Lines::crash_line))]
+fn crash_line(alias: &[u8], keep: &[u8], count: &[u8]) -> Option<Line>
+    ensures { result ≡ crash_line alias.now keep.now count.now }
+{
+    if keep != b"keep".as_slice() {
+        return None;
+    }
+    let alias = Alias::read(alias).ok()?;
+    let keep = read_number(count)?;
+    Some(Line::Act {
+        action: Action::Crash { alias, keep },
+    })
+}
+
+#[tactic(auto, unfolding(crate::specs::Lines::restart_line))]
+fn restart_line(alias: &[u8]) -> Option<Line>
+    ensures { result ≡ restart_line alias.now }
+{
+    let alias = Alias::read(alias).ok()?;
+    Some(Line::Act {
+        action: Action::Restart { alias },
+    })
+}
+
+/// An end of a link: `control` or a tablet.
+#[tactic(auto, unfolding(crate::specs::Lines::side_reading))]
+fn read_side(text: &[u8]) -> Option<Side>
+    ensures { result ≡ side_reading text.now }
+{
+    if text == b"control".as_slice() {
+        return Some(Side::Control);
+    }
+    let alias = Alias::read(text).ok()?;
+    Some(Side::Tablet { alias })
+}
+
+/// Whether there is a link between the two: not of the commands' end with itself.
+fn are_ends(x: &Side, y: &Side) -> bool
+    ensures { result ≡ are_ends x.now y.now }
+{
+    match x {
+        Side::Control => match y {
+            Side::Control => false,
+            Side::Tablet { .. } => true,
+        },
+        Side::Tablet { .. } => match y {
+            Side::Control => true,
+            Side::Tablet { .. } => true,
+        },
+    }
+}
+
+/// The link between two ends.
+#[tactic(auto, unfolding(crate::specs::Lines::link_reading))]
+fn read_link(a: &[u8], b: &[u8]) -> Option<Link>
+    ensures { result ≡ link_reading a.now b.now }
+{
+    let x = read_side(a)?;
+    let y = read_side(b)?;
+    if !are_ends(&x, &y) {
+        return None;
+    }
+    Some(Link { x, y })
+}
+
+#[tactic(auto, unfolding(crate::specs::Lines::cut_line))]
+fn cut_line(a: &[u8], b: &[u8]) -> Option<Line>
+    ensures { result ≡ cut_line a.now b.now }
+{
+    let link = read_link(a, b)?;
+    Some(Line::Act {
+        action: Action::Cut {
+            x: link.x,
+            y: link.y,
+        },
+    })
+}
+
+#[tactic(auto, unfolding(crate::specs::Lines::mend_line))]
+fn mend_line(a: &[u8], b: &[u8]) -> Option<Line>
+    ensures { result ≡ mend_line a.now b.now }
+{
+    let link = read_link(a, b)?;
+    Some(Line::Act {
+        action: Action::Mend {
+            x: link.x,
+            y: link.y,
+        },
+    })
+}
+
+#[tactic(auto, unfolding(crate::specs::Lines::lose_line))]
+fn lose_line(message: &[u8]) -> Option<Line>
+    ensures { result ≡ lose_line message.now }
+{
+    let message = read_number(message)?;
+    Some(Line::Act {
+        action: Action::Lose { message },
+    })
+}
+
+#[tactic(auto, unfolding(crate::specs::Lines::repeat_line))]
+fn repeat_line(message: &[u8]) -> Option<Line>
+    ensures { result ≡ repeat_line message.now }
+{
+    let message = read_number(message)?;
+    Some(Line::Act {
+        action: Action::Repeat { message },
+    })
+}
+
 fn one_word(head: &[u8]) -> Option<Line>
     ensures { result ≡ one_word head.now }
 {
@@ -212,22 +294,41 @@ fn one_word(head: &[u8]) -> Option<Line>
         Some(Line::Act {
             action: Action::Lapse,
         })
+    } else if head == b"settle".as_slice() {
+        Some(Line::Act {
+            action: Action::Settle,
+        })
     } else {
         None
+    }
+}
+
+/// What is done to a tablet or a message, or a command.
+fn tablet_or_message(head: &[u8], a: &[u8]) -> Option<Line>
+    ensures { result ≡ tablet_or_message head.now a.now }
+{
+    if head == b"local".as_slice() {
+        local_line(a)
+    } else if head == b"restart".as_slice() {
+        restart_line(a)
+    } else if head == b"lose".as_slice() {
+        lose_line(a)
+    } else if head == b"repeat".as_slice() {
+        repeat_line(a)
+    } else {
+        play_line(command_of_two(head, a))
     }
 }
 
 fn two_words(head: &[u8], a: &[u8]) -> Option<Line>
     ensures { result ≡ two_words head.now a.now }
 {
-    if head == b"write".as_slice() {
-        write_line(a)
-    } else if head == b"finish".as_slice() {
+    if head == b"finish".as_slice() {
         finish_line(a)
     } else if head == b"tick".as_slice() {
         tick_line(a)
     } else {
-        None
+        tablet_or_message(head, a)
     }
 }
 
@@ -238,6 +339,10 @@ fn three_words(head: &[u8], a: &[u8], b: &[u8]) -> Option<Line>
         shard_line(a, b)
     } else if head == b"turn".as_slice() {
         turn_line(a, b)
+    } else if head == b"cut".as_slice() {
+        cut_line(a, b)
+    } else if head == b"mend".as_slice() {
+        mend_line(a, b)
     } else {
         None
     }
@@ -248,12 +353,12 @@ fn four_words(head: &[u8], a: &[u8], b: &[u8], c: &[u8]) -> Option<Line>
 {
     if head == b"tablet".as_slice() {
         tablet_line(a, b, c)
-    } else if head == b"PlannedReparentShard".as_slice() {
-        planned_line(a, b, c)
+    } else if head == b"crash".as_slice() {
+        crash_line(a, b, c)
     } else if head == b"start".as_slice() {
-        start_write_line(a, b, c)
+        start_line(a, command_of_two(b, c))
     } else {
-        None
+        play_line(command_of_four(head, a, b, c))
     }
 }
 
@@ -261,7 +366,7 @@ fn six_words(head: &[u8], a: &[u8], b: &[u8], c: &[u8], d: &[u8], e: &[u8]) -> O
     ensures { result ≡ six_words head.now a.now b.now c.now d.now e.now }
 {
     if head == b"start".as_slice() {
-        start_planned_line(a, b, c, d, e)
+        start_line(a, command_of_four(b, c, d, e))
     } else {
         None
     }

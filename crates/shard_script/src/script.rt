@@ -1,12 +1,14 @@
 ghost use Rattle.std.specs.Prelude.{◌≡◌, ◌≤◌, ◌<◌, ◌==◌, [], ◌∷◌, ◌++◌, map, position, length, IfOk, IfSome, OnOk, Some, None, if◌then◌else◌};
+ghost use Rattle.std.specs.List.{list_all};
 ghost use Rattle.std.specs.Str.{bytes_eq};
 ghost use Rattle.shard_names.specs.Tablets.{alias_eq};
 ghost use Rattle.shard_script.specs.Names.{has_name, started_by};
-ghost use Rattle.shard_script.specs.Script.{first_bytes, place_among, has_alias, has_server, shard_eq, is_shard, is_below, in_place, admits_tablet, admits_command, admits_name, admits_action, admits, with_line, with_bytes, lines_of, ended_lines, read_on, read_lines, reading, Gives, Fits};
+ghost use Rattle.shard_script.specs.Aliases.{aliases_in, aliases_at};
+ghost use Rattle.shard_script.specs.Script.{all_declared, first_bytes, place_among, has_alias, has_server, shard_eq, is_shard, is_below, in_place, admits_tablet, admits_command, admits_name, admits_action, admits, with_line, with_bytes, lines_of, ended_lines, read_on, read_lines, reading, Gives, Fits};
 
 use crate::line::{Line, parts_of, read_line};
 use shard_base::{Items, OutOfMemory};
-use shard_core::Command;
+use shard_calls::{Command, Side};
 use shard_names::{Alias, Name, ShardName, Tablet};
 use std::alloc::Global;
 use uuid::Uuid;
@@ -22,6 +24,22 @@ pub enum Action {
     Turn { name: Name, pumps: u64 },
     /// It goes on until it has ended.
     Finish { name: Name },
+    /// Messages come and entries are offered, until there is nothing more to come.
+    Settle,
+    /// An entry is written at the tablet itself, round the primary.
+    Local { alias: Alias },
+    /// The tablet goes down. Of the bytes that it has not synced the first so many stay.
+    Crash { alias: Alias, keep: u64 },
+    /// The tablet comes up again.
+    Restart { alias: Alias },
+    /// No message passes between the two any more.
+    Cut { x: Side, y: Side },
+    /// Messages pass between them again.
+    Mend { x: Side, y: Side },
+    /// The message of this number never comes any more.
+    Lose { message: u64 },
+    /// It comes once more.
+    Repeat { message: u64 },
     /// The shard's lock is freed, whoever holds it.
     Lapse,
     /// So many milliseconds go by.
@@ -141,7 +159,8 @@ fn admits_command(script: &Script, command: &Command) -> bool
 {
     match command {
         Command::Planned { shard, .. } => is_shard(&script.shard, shard),
-        Command::Write => true,
+        Command::Write { .. } => true,
+        Command::Show { .. } => true,
     }
 }
 
@@ -149,6 +168,51 @@ fn admits_name(script: &Script, name: &Name) -> bool
     ensures { result ≡ admits_name script.now name.now }
 {
     script.names.len() < MOST_NAMES && !has_name(script.names.as_slice(), name)
+}
+
+/// Whether the tablet that a command writes at or shows is among these.
+fn command_declared(tablets: &[Tablet], command: &Command) -> bool
+    ensures { result ≡ list_all (has_alias tablets.now) (aliases_in command.now) }
+{
+    match command {
+        Command::Planned { .. } => true,
+        Command::Write { to } => match to {
+            Some(alias) => has_alias(tablets, alias),
+            None => true,
+        },
+        Command::Show { alias } => has_alias(tablets, alias),
+    }
+}
+
+fn side_declared(tablets: &[Tablet], side: &Side) -> bool
+    ensures { result ≡ list_all (has_alias tablets.now) (aliases_at side.now) }
+{
+    match side {
+        Side::Control => true,
+        Side::Tablet { alias } => has_alias(tablets, alias),
+    }
+}
+
+/// Whether the tablets that an action names are among these.
+fn all_declared(tablets: &[Tablet], action: &Action) -> bool
+    ensures { result ≡ all_declared tablets.now action.now }
+{
+    match action {
+        Action::Play { command, .. } => command_declared(tablets, command),
+        Action::Start { command, .. } => command_declared(tablets, command),
+        Action::Turn { .. } => true,
+        Action::Finish { .. } => true,
+        Action::Settle => true,
+        Action::Local { alias } => has_alias(tablets, alias),
+        Action::Crash { alias, .. } => has_alias(tablets, alias),
+        Action::Restart { alias } => has_alias(tablets, alias),
+        Action::Cut { x, y } => side_declared(tablets, x) && side_declared(tablets, y),
+        Action::Mend { x, y } => side_declared(tablets, x) && side_declared(tablets, y),
+        Action::Lose { .. } => true,
+        Action::Repeat { .. } => true,
+        Action::Lapse => true,
+        Action::Tick { .. } => true,
+    }
 }
 
 /// Whether an action may stand behind the shard and the actions so far.
@@ -162,6 +226,14 @@ fn admits_action(script: &Script, action: &Action) -> bool
         }
         Action::Turn { name, .. } => has_name(script.names.as_slice(), name),
         Action::Finish { name } => has_name(script.names.as_slice(), name),
+        Action::Settle => true,
+        Action::Local { .. } => true,
+        Action::Crash { .. } => true,
+        Action::Restart { .. } => true,
+        Action::Cut { .. } => true,
+        Action::Mend { .. } => true,
+        Action::Lose { .. } => true,
+        Action::Repeat { .. } => true,
         Action::Lapse => true,
         Action::Tick { .. } => true,
     }
@@ -174,7 +246,11 @@ fn admits(script: &Script, line: &Line) -> bool
     match line {
         Line::Shard { .. } => script.shard.is_none(),
         Line::Tablet { tablet } => admits_tablet(script, tablet),
-        Line::Act { action } => script.shard.is_some() && admits_action(script, action),
+        Line::Act { action } => {
+            script.shard.is_some()
+                && admits_action(script, action)
+                && all_declared(script.tablets.as_slice(), action)
+        }
     }
 }
 
@@ -223,6 +299,8 @@ fn with_action(actions: Items<Action>, action: Action) -> Result<Items<Action>, 
     ensures { IfOk result (λ new. new ≡ actions ++ action ∷ []) }
 {
     let _command: Option<&Command> = None;
+    let _to: Option<&Option<Alias>> = None;
+    let _side: Option<&Side> = None;
     let mut actions = actions;
     actions.push(action)?;
     Ok(actions)

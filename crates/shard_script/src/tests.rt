@@ -1,4 +1,7 @@
 use crate::number::read_duration;
+use crate::{ScriptFault, read_text};
+use shard_base::{OutOfMemory, append_pieces};
+use std::alloc::Global;
 use std::test::Fail;
 
 #[test]
@@ -10,5 +13,67 @@ fn reads_durations_of_at_most_a_day(rt: HostRuntime) -> Result<(), Fail> {
     assert_eq!(rt; read_duration(b"1000000000ms"), None);
     assert_eq!(rt; read_duration(b"5"), None);
     assert_eq!(rt; read_duration(b"ms"), None);
+    Ok(())
+}
+
+/// The line with a fault in a script of two tablets with these lines behind them, which begin with line 4.
+fn fault_of(alloc: Global, lines: &[u8]) -> Result<Option<u64>, OutOfMemory> {
+    let mut text = Vec::new(alloc);
+    let first = b"tablet zone1-100 replica 00000000-0000-4000-8000-000000000100\n";
+    let second = b"tablet zone1-101 replica 00000000-0000-4000-8000-000000000101\n";
+    append_pieces(
+        &mut text,
+        &[
+            b"shard commerce/0 none\n".as_slice(),
+            first.as_slice(),
+            second.as_slice(),
+            lines,
+        ],
+    )?;
+    match read_text(alloc, &text) {
+        Ok(_) => Ok(None),
+        Err(ScriptFault::Line(place)) => Ok(Some(place)),
+        Err(ScriptFault::OutOfMemory) => Err(OutOfMemory),
+    }
+}
+
+#[test]
+fn reads_what_is_done_to_tablets_and_messages(rt: HostRuntime) -> Result<(), Fail> {
+    let lines = [
+        b"write 3 to zone1-101".as_slice(),
+        b"show zone1-0000000101".as_slice(),
+        b"start w write 1 to zone1-100\nturn w 5\nfinish w".as_slice(),
+        b"start s show zone1-100".as_slice(),
+        b"local zone1-101\nsettle\n".as_slice(),
+        b"crash zone1-100 keep 18446744073709551615\nrestart zone1-100".as_slice(),
+        b"cut zone1-100 zone1-101\nmend zone1-101 zone1-100".as_slice(),
+        b"cut control zone1-100\nmend zone1-100 control\ncut zone1-100 zone1-100".as_slice(),
+        b"lose 0\nrepeat 27".as_slice(),
+    ];
+    for line in lines {
+        assert_eq!(rt; fault_of(rt.alloc(), line)?, None);
+    }
+    Ok(())
+}
+
+#[test]
+fn finds_the_line_with_a_fault(rt: HostRuntime) -> Result<(), Fail> {
+    let faults = [
+        (b"settle\nlocal zone1-102".as_slice(), 5),
+        (b"show zone1-102".as_slice(), 4),
+        (b"write 1 to zone1-102".as_slice(), 4),
+        (b"write 1 zone1-100".as_slice(), 4),
+        (b"write 0 to zone1-100".as_slice(), 4),
+        (b"start w write 2 to zone1-100".as_slice(), 4),
+        (b"start w settle".as_slice(), 4),
+        (b"cut control zone1-100\ncut control control".as_slice(), 5),
+        (b"mend zone1-100 zone1-102".as_slice(), 4),
+        (b"crash zone1-100 0".as_slice(), 4),
+        (b"crash zone1-100 keep 18446744073709551616".as_slice(), 4),
+        (b"lose 1\nrepeat -1".as_slice(), 5),
+    ];
+    for (lines, place) in faults {
+        assert_eq!(rt; fault_of(rt.alloc(), lines)?, Some(place));
+    }
     Ok(())
 }

@@ -2,9 +2,9 @@ pub mod StreamLemmas
 pub mod LongerLemmas
 pub mod EndedLemmas
 pub mod FairLemmas
+pub mod LeavingLemmas
 pub mod PlayingLemmas
 pub mod TurnLemmas
-pub mod TextLemmas
 pub mod RestLemmas
 pub mod TopLemmas
 pub mod LawLemmas

@@ -1,31 +1,35 @@
 -- The answer of the whole.
-use Rattle.std.proofs.Common.{◌≡◌, ◌≢◌, ℕ, List, [], ◌++◌, Option, Some, None, Result, Ok, Err, IfOk, MatchResult, Vec, Global, refl, sym, subst, ◌∙◌, arith}
-use Rattle.std.specs.Prelude.{IsOkAnd, slice_get}
+use Rattle.std.proofs.Common.{◌≡◌, ◌≢◌, ℕ, ◌+◌, List, [], ◌++◌, length, Option, Some, None, Result, Ok, Err, IfOk, MatchResult, Vec, Global, refl, ap, sym, subst, ◌∙◌, arith}
+use Rattle.std.specs.Prelude.{IsOkAnd, IsTrue, nat_lt}
 use Rattle.std.proofs.lemmas.List.{append-nil}
 use Rattle.std.specs.Io.KnownBytes.{Appends}
 use Rattle.shard_base.specs.Lists.{IsFront}
 use Rattle.shard_base.specs.declared.memory.OutOfMemory.{OutOfMemory}
 use Rattle.shard_names.specs.Tablets.{AreTablets}
-use Rattle.shard_core.specs.World.{Config}
-use Rattle.shard_core.specs.Kept.{Kept, IsSafe}
-use Rattle.shard_core.specs.declared.event.Step.{Step}
+use Rattle.shard_calls.specs.World.{Config}
+use Rattle.shard_core.specs.Kept.{Kept}
+use Rattle.shard_calls.specs.Safe.{IsSafe}
+use Rattle.shard_calls.proofs.RunLemmas.{every_run_is_safe}
+use Rattle.shard_calls.specs.declared.event.Step.{Step}
 use Rattle.shard_script.specs.declared.script.Script.{Script}
 use Rattle.shard_script.specs.declared.script.ScriptFault.{ScriptFault}
 use Rattle.shard_script.specs.declared.script.ScriptFault.TheVariants as faults
 use Rattle.shard_script.specs.Script.{Fits, Gives, reading, front}
 use Rattle.shard_top.specs.declared.player.Stop.{Stop}
-use Rattle.shard_top.specs.Played.{Want, config_of, IsCutOff}
+use Rattle.shard_top.specs.Played.{Want, Made, steps_of, notes_of, notes_from, first_moment, config_of, IsRunOf}
+use Rattle.shard_top.specs.Playing.{HasRun, WasCutOff}
 use Rattle.shard_top.specs.Streams.{AppendsFront, WasRead}
 use Rattle.shard_top.specs.Program.{Answer, Answers, IsAnswerOf, IsAnswerToReading, IsAnswerBy, IsAnswerTo, fault_answer, no_config}
 use Rattle.shard_top.specs.Words.{usage_fault}
-use Rattle.shard_top.specs.Texts.{usage_text, fault_text, text_of, stop_text, status_of}
+use Rattle.vtctld_text.specs.declared.note.Note.{Note}
+use Rattle.vtctld_text.specs.Notes.{text_with, AreInPlace}
+use Rattle.shard_top.specs.Texts.{usage_text, fault_text, stop_text, status_of}
 use Rattle.shard_script.proofs.ScriptLemmas.{fits_from}
-use Rattle.shard_top.proofs.RestLemmas.{HasRun, plays_to_stop}
+use Rattle.shard_top.proofs.LongerLemmas.{steps_append, notes_append}
+use Rattle.shard_top.proofs.RestLemmas.{plays_to_stop}
+use Rattle.shard_top.proofs.LawLemmas.{notes_in_place}
 
 -- ---- nothing written, nothing kept
-
-none_got : (i : ℕ) (s : Step) → slice_get [] i ≡ Some s → ⊥
-none_got i s is = absurd (cc)
 
 appends_none : (o : Option (List ℕ)) → Appends o o []
 appends_none None = tt
@@ -38,13 +42,7 @@ pub no_tablets : AreTablets []
 no_tablets = record { in_order = tt; apart = tt }
 
 safe_from_none : (config : Config) → AreTablets config.tablets → IsSafe config []
-safe_from_none config h = record {
-  tablets = h;
-  run = tt;
-  one_promotion = λ i j term a b before others p q. absurd (none_got i p.step p.here);
-  keeps_told = λ i x a ends told. absurd (none_got i _ ends.1);
-  causes = λ i c x is. absurd (none_got i _ is);
-}
+safe_from_none config h = every_run_is_safe config [] (record { tablets = h }) tt
 
 safe_none : (config : Config) (steps : List Step) → steps ≡ [] → AreTablets config.tablets → IsSafe config steps
 safe_none config steps none h = subst (λ (ss : List Step). IsSafe config ss) (sym none) (safe_from_none config h)
@@ -52,19 +50,33 @@ safe_none config steps none h = subst (λ (ss : List Step). IsSafe config ss) (s
 pub safe_empty : (steps : List Step) → steps ≡ [] → (config : Config) × IsSafe config steps
 safe_empty steps none = (no_config, safe_none no_config steps none no_tablets)
 
-front_of_none : (steps whole : List Step) → steps ≡ [] → IsFront steps whole
-front_of_none steps whole none = subst (λ (ss : List Step). IsFront ss whole) (sym none) (record { rest = whole; split = refl })
+front_of_none : {A : Type 0} (xs whole : List A) → xs ≡ [] → IsFront xs whole
+front_of_none {A} xs whole none = subst (λ (ys : List A). IsFront ys whole) (sym none) (record { rest = whole; split = refl })
 
-same_front : (steps whole : List Step) → steps ≡ whole → IsFront steps whole
-same_front steps whole is = record { rest = []; split = sym is ∙ sym (append-nil steps) }
+same_front : {A : Type 0} (xs whole : List A) → xs ≡ whole → IsFront xs whole
+same_front xs whole is = record { rest = []; split = sym is ∙ sym (append-nil xs) }
+
+-- the clock of a script begins before the year 9999
+pub begins_in_time : (n : ℕ) → n ≡ first_moment → IsTrue (nat_lt n 253370764800000)
+unfolding first_moment
+begins_in_time n is = subst (λ (k : ℕ). IsTrue (nat_lt k 253370764800000)) (sym is) refl
 
 -- ---- the answer of a run
 
-abbrev made_answer : Script → Stop → List Step → Answer
-made_answer s stop history = record { status = status_of stop history; config = config_of s; history = history; written = text_of history ++ stop_text stop }
+abbrev made_answer : Script → Stop → List Step → List Note → Answer
+made_answer s stop history notes =
+    record { status = status_of stop history notes; config = config_of s; history = history; notes = notes; written = text_with history notes ++ stop_text stop }
 
-is_made : (s : Script) (stop : Stop) (history : List Step) → HasRun s history stop → IsAnswerOf s (made_answer s stop history)
-is_made s stop history run = record { wants = run.0; stop = stop; run = run.1; status = refl; config = refl; written = refl }
+is_made : (s : Script) (stop : Stop) (history : List Step) (notes : List Note) → HasRun s history notes stop → IsAnswerOf s (made_answer s stop history notes)
+is_made s stop history notes run = record { stop = stop; played = run; status = refl; config = refl; written = refl }
+
+run_is : (s : Script) (wants : List Want) (made : List Made) (stop : Stop) → IsRunOf s wants made stop → HasRun s (steps_of made) (notes_of made) stop
+run_is s wants made stop run = record { wants = wants; made = made; run = run; of_steps = refl; of_notes = refl }
+
+-- its notes stand in their places
+pub stand_in_place : (s : Script) (k : Kept) (steps : List Step) (notes : List Note) (stop : Stop) → steps ≡ k.steps → HasRun s k.steps notes stop → AreInPlace steps notes
+stand_in_place s k steps notes stop is run =
+    subst (λ (ss : List Step). AreInPlace ss notes) (run.of_steps ∙ sym is) (subst (λ (ns : List Note). AreInPlace (steps_of run.made) ns) run.of_notes (notes_in_place run.made))
 
 -- ---- some answer, and its tablets
 
@@ -72,7 +84,12 @@ abbrev SomeAnswer : (Answer → Type 0) → Type 0
 SomeAnswer P = (a : Answer) × P a × AreTablets a.config.tablets
 
 of_script : (s : Script) → AreTablets s.tablets → SomeAnswer (λ a. IsAnswerOf s a)
-of_script s h = let w = plays_to_stop s [] [] (omega arith) tt in (made_answer s w.1.0 w.0, is_made s w.1.0 w.0 ([], w.1.1), h)
+of_script s h =
+    let w = plays_to_stop s [] [] (omega arith) tt in (
+      made_answer s w.1.0 (steps_of w.0) (notes_of w.0),
+      is_made s w.1.0 (steps_of w.0) (notes_of w.0) (run_is s [] w.0 w.1.0 w.1.1),
+      h,
+    )
 
 of_reading : (r : Result Script ℕ) → ((s : Script) → r ≡ Ok s → Fits s) → SomeAnswer (λ a. IsAnswerToReading r a)
 of_reading (Ok s) h = of_script s (h s refl).tablets
@@ -87,125 +104,142 @@ of_words None text = of_text text
 
 -- ---- want of memory
 
-pub gave_up : (a : Answer) (calm : Type 0) (status : ℕ) (history : List Step) (o : Option (List ℕ)) → status ≡ 6 → history ≡ [] → AreTablets a.config.tablets
-    → Answers a calm status history o o
-gave_up a calm status history o is none h = record {
+pub gave_up : (a : Answer) (calm : Type 0) (status : ℕ) (history : List Step) (notes : List Note) (o : Option (List ℕ)) → status ≡ 6 → history ≡ [] → notes ≡ [] → AreTablets a.config.tablets
+    → Answers a calm status history notes o o
+gave_up a calm status history notes o is none unnoted h = record {
   whole = λ c no6. absurd (no6 is);
   kept = λ no6. absurd (no6 is);
   front = front_of_none history a.history none;
+  front_notes = front_of_none notes a.notes unnoted;
   written = front_none o a.written;
   safe = safe_none a.config history none h;
 }
 
 -- what a call answered, by some answer that fits
-abbrev pub Answered : (Answer → Type 0) → Type 0 → ℕ → List Step → Option (List ℕ) → Option (List ℕ) → Type 0
-Answered P calm status history old new = (a : Answer) × P a × Answers a calm status history old new
+abbrev pub Answered : (Answer → Type 0) → Type 0 → ℕ → List Step → List Note → Option (List ℕ) → Option (List ℕ) → Type 0
+Answered P calm status history notes old new = (a : Answer) × P a × Answers a calm status history notes old new
 
-gave_up_by : (P : Answer → Type 0) (calm : Type 0) (status : ℕ) (history : List Step) (o : Option (List ℕ)) → SomeAnswer P → status ≡ 6 → history ≡ [] → Answered P calm status history o o
-gave_up_by P calm status history o some is none = (some.0, some.1, gave_up some.0 calm status history o is none some.2)
+gave_up_by : (P : Answer → Type 0) (calm : Type 0) (status : ℕ) (history : List Step) (notes : List Note) (o : Option (List ℕ)) → SomeAnswer P → status ≡ 6 → history ≡ [] → notes ≡ []
+    → Answered P calm status history notes o o
+gave_up_by P calm status history notes o some is none unnoted = (some.0, some.1, gave_up some.0 calm status history notes o is none unnoted some.2)
 
-pub gave_up_script : (s : Script) (calm : Type 0) (status : ℕ) (history : List Step) (o : Option (List ℕ)) → AreTablets s.tablets → status ≡ 6 → history ≡ []
-    → Answered (λ a. IsAnswerOf s a) calm status history o o
-gave_up_script s calm status history o h is none = gave_up_by (λ a. IsAnswerOf s a) calm status history o (of_script s h) is none
+pub gave_up_script : (s : Script) (calm : Type 0) (status : ℕ) (history : List Step) (notes : List Note) (o : Option (List ℕ)) → AreTablets s.tablets → status ≡ 6 → history ≡ [] → notes ≡ []
+    → Answered (λ a. IsAnswerOf s a) calm status history notes o o
+gave_up_script s calm status history notes o h is none unnoted = gave_up_by (λ a. IsAnswerOf s a) calm status history notes o (of_script s h) is none unnoted
 
-pub gave_up_text : (text : List ℕ) (calm : Type 0) (status : ℕ) (history : List Step) (o : Option (List ℕ)) → status ≡ 6 → history ≡ []
-    → Answered (λ a. IsAnswerToReading (reading text) a) calm status history o o
-gave_up_text text calm status history o is none = gave_up_by (λ a. IsAnswerToReading (reading text) a) calm status history o (of_text text) is none
+pub gave_up_text : (text : List ℕ) (calm : Type 0) (status : ℕ) (history : List Step) (notes : List Note) (o : Option (List ℕ)) → status ≡ 6 → history ≡ [] → notes ≡ []
+    → Answered (λ a. IsAnswerToReading (reading text) a) calm status history notes o o
+gave_up_text text calm status history notes o is none unnoted = gave_up_by (λ a. IsAnswerToReading (reading text) a) calm status history notes o (of_text text) is none unnoted
 
-pub gave_up_words : (words : List (List ℕ)) (text : List ℕ) (calm : Type 0) (status : ℕ) (history : List Step) (o : Option (List ℕ)) → status ≡ 6 → history ≡ []
-    → Answered (λ a. IsAnswerTo words text a) calm status history o o
-gave_up_words words text calm status history o is none = gave_up_by (λ a. IsAnswerTo words text a) calm status history o (of_words (usage_fault words) text) is none
+pub gave_up_words : (words : List (List ℕ)) (text : List ℕ) (calm : Type 0) (status : ℕ) (history : List Step) (notes : List Note) (o : Option (List ℕ)) → status ≡ 6 → history ≡ [] → notes ≡ []
+    → Answered (λ a. IsAnswerTo words text a) calm status history notes o o
+gave_up_words words text calm status history notes o is none unnoted =
+    gave_up_by (λ a. IsAnswerTo words text a) calm status history notes o (of_words (usage_fault words) text) is none unnoted
 
 -- memory ran out while the script was played
-gave_up_playing : (s : Script) (calm : Type 0) (history : List Step) (o : Option (List ℕ)) (wants : List Want) → IsCutOff s wants history → IsSafe (config_of s) history
-    → Answered (λ a. IsAnswerOf s a) calm 6 history o o
-gave_up_playing s calm history o wants cut safe =
-    let w = plays_to_stop s wants history cut.few cut.played in
-    let whole : List Step = history ++ w.0 in (
-      made_answer s w.1.0 whole,
-      is_made s w.1.0 whole (wants, w.1.1),
+gave_up_playing : (s : Script) (calm : Type 0) (history : List Step) (notes : List Note) (o : Option (List ℕ)) → WasCutOff s history notes → IsSafe (config_of s) history
+    → Answered (λ a. IsAnswerOf s a) calm 6 history notes o o
+gave_up_playing s calm history notes o cut safe =
+    let w = plays_to_stop s cut.wants cut.made cut.cut.few cut.cut.played in
+    let whole : List Made = cut.made ++ w.0 in (
+      made_answer s w.1.0 (steps_of whole) (notes_of whole),
+      is_made s w.1.0 (steps_of whole) (notes_of whole) (run_is s cut.wants whole w.1.0 w.1.1),
       record {
         whole = λ c no6. absurd (no6 refl);
         kept = λ no6. absurd (no6 refl);
-        front = record { rest = w.0; split = refl };
-        written = front_none o (text_of whole ++ stop_text w.1.0);
+        front = record { rest = steps_of w.0; split = steps_append cut.made w.0 ∙ ap (λ (ss : List Step). ss ++ steps_of w.0) cut.of_steps };
+        front_notes = record {
+          rest = notes_from (0 + length (steps_of cut.made)) w.0;
+          split = notes_append 0 cut.made w.0 ∙ ap (λ (ns : List Note). ns ++ notes_from (0 + length (steps_of cut.made)) w.0) cut.of_notes;
+        };
+        written = front_none o (text_with (steps_of whole) (notes_of whole) ++ stop_text w.1.0);
         safe = safe;
       },
     )
 
-pub gave_up_by_playing : (s : Script) (calm : Type 0) (k : Kept) (history : List Step) (o : Option (List ℕ)) → history ≡ k.steps → k.config ≡ config_of s → IsSafe k.config history
-    → (wants : List Want) × IsCutOff s wants k.steps → Answered (λ a. IsAnswerOf s a) calm 6 history o o
-gave_up_by_playing s calm k history o is config safe cut =
-    gave_up_playing s calm history o cut.0 (subst (λ (ss : List Step). IsCutOff s cut.0 ss) (sym is) cut.1) (subst (λ (c : Config). IsSafe c history) config safe)
+pub gave_up_by_playing : (s : Script) (calm : Type 0) (k : Kept) (history : List Step) (notes : List Note) (o : Option (List ℕ)) → history ≡ k.steps → k.config ≡ config_of s → IsSafe k.config history
+    → WasCutOff s k.steps notes → Answered (λ a. IsAnswerOf s a) calm 6 history notes o o
+gave_up_by_playing s calm k history notes o is config safe cut =
+    gave_up_playing s calm history notes o (subst (λ (ss : List Step). WasCutOff s ss notes) (sym is) cut) (subst (λ (c : Config). IsSafe c history) config safe)
 
 -- ---- the whole
 
-told_all : (s : Script) (stop : Stop) (calm : Type 0) (status : ℕ) (played history : List Step) (o n : Option (List ℕ)) → HasRun s played stop → history ≡ played → IsSafe (config_of s) played
-    → (calm → status ≢ 6 → (status ≡ status_of stop played) × Appends o n (text_of played ++ stop_text stop)) → AppendsFront o n (text_of played ++ stop_text stop)
-    → Answered (λ a. IsAnswerOf s a) calm status history o n
-told_all s stop calm status played history o n run is safe said part = (
-  made_answer s stop played,
-  is_made s stop played run,
+-- what was put of a text, if there was memory for it
+pub told_part : (r : Result (Vec ℕ Global) OutOfMemory) (o n : Option (List ℕ)) (bytes : List ℕ) → IfOk r (λ t. t.items ≡ bytes)
+    → MatchResult r (λ t. AppendsFront o n t.items) (λ _. n ≡ o) → AppendsFront o n bytes
+told_part (Ok t) o n bytes text part = subst (λ (bs : List ℕ). AppendsFront o n bs) text part
+told_part (Err e) o n bytes text part = subst (λ (k : Option (List ℕ)). AppendsFront o k bytes) (sym part) (front_none o bytes)
+
+told_all : (s : Script) (stop : Stop) (calm : Type 0) (status : ℕ) (played history : List Step) (noted notes : List Note) (o n : Option (List ℕ)) → HasRun s played noted stop → history ≡ played
+    → notes ≡ noted → IsSafe (config_of s) played → (calm → status ≢ 6 → (status ≡ status_of stop played noted) × Appends o n (text_with played noted ++ stop_text stop))
+    → AppendsFront o n (text_with played noted ++ stop_text stop) → Answered (λ a. IsAnswerOf s a) calm status history notes o n
+told_all s stop calm status played history noted notes o n run is same safe said part = (
+  made_answer s stop played noted,
+  is_made s stop played noted run,
   record {
     whole = said;
-    kept = λ no6. is;
+    kept = λ no6. (is, same);
     front = same_front history played is;
+    front_notes = same_front notes noted same;
     written = part;
     safe = subst (λ (ss : List Step). IsSafe (config_of s) ss) (sym is) safe;
   },
 )
 
+pub told_by : (s : Script) (stop : Stop) (calm : Type 0) (status : ℕ) (k : Kept) (played history : List Step) (noted notes : List Note) (o n : Option (List ℕ)) → played ≡ k.steps
+    → k.config ≡ config_of s → IsSafe k.config played → HasRun s k.steps noted stop → history ≡ played → notes ≡ noted
+    → (calm → status ≢ 6 → (status ≡ status_of stop played noted) × Appends o n (text_with played noted ++ stop_text stop)) → AppendsFront o n (text_with played noted ++ stop_text stop)
+    → Answered (λ a. IsAnswerOf s a) calm status history notes o n
+told_by s stop calm status k played history noted notes o n same config safe run is kept said part =
+    told_all s stop calm status played history noted notes o n (subst (λ (ss : List Step). HasRun s ss noted stop) (sym same) run) is kept (subst (λ (c : Config). IsSafe c played) config safe) said
+    part
+
 -- a fault is said, and nothing is kept
-pub said_fault : (a : Answer) (calm : Type 0) (status : ℕ) (history : List Step) (o n : Option (List ℕ)) (r : Result (Vec ℕ Global) OutOfMemory) → a.history ≡ [] → AreTablets a.config.tablets
-    → history ≡ [] → IfOk r (λ t. t.items ≡ a.written) → (calm → status ≢ 6 → IsOkAnd r (λ t. (status ≡ a.status) × Appends o n t.items))
-    → MatchResult r (λ t. AppendsFront o n t.items) (λ _. n ≡ o) → Answers a calm status history o n
-said_fault a calm status history o n (Ok t) empty h none text said part = record {
+pub said_fault : (a : Answer) (calm : Type 0) (status : ℕ) (history : List Step) (notes : List Note) (o n : Option (List ℕ)) (r : Result (Vec ℕ Global) OutOfMemory) → a.history ≡ [] → a.notes ≡ []
+    → AreTablets a.config.tablets → history ≡ [] → notes ≡ [] → IfOk r (λ t. t.items ≡ a.written) → (calm → status ≢ 6 → IsOkAnd r (λ t. (status ≡ a.status) × Appends o n t.items))
+    → MatchResult r (λ t. AppendsFront o n t.items) (λ _. n ≡ o) → Answers a calm status history notes o n
+said_fault a calm status history notes o n (Ok t) empty bare h none unnoted text said part = record {
   whole = λ c no6. let both = said c no6 in (both.0, subst (λ (bs : List ℕ). Appends o n bs) text both.1);
-  kept = λ no6. none ∙ sym empty;
+  kept = λ no6. (none ∙ sym empty, unnoted ∙ sym bare);
   front = front_of_none history a.history none;
+  front_notes = front_of_none notes a.notes unnoted;
   written = subst (λ (bs : List ℕ). AppendsFront o n bs) text part;
   safe = safe_none a.config history none h;
 }
-said_fault a calm status history o n (Err e) empty h none text said part = record {
+said_fault a calm status history notes o n (Err e) empty bare h none unnoted text said part = record {
   whole = λ c no6. absurd (said c no6);
-  kept = λ no6. none ∙ sym empty;
+  kept = λ no6. (none ∙ sym empty, unnoted ∙ sym bare);
   front = front_of_none history a.history none;
+  front_notes = front_of_none notes a.notes unnoted;
   written = subst (λ (k : Option (List ℕ)). AppendsFront o k a.written) (sym part) (front_none o a.written);
   safe = safe_none a.config history none h;
 }
 
-pub told_by : (s : Script) (stop : Stop) (calm : Type 0) (status : ℕ) (k : Kept) (played history : List Step) (o n : Option (List ℕ)) → played ≡ k.steps → k.config ≡ config_of s
-    → IsSafe k.config played → HasRun s k.steps stop → history ≡ played
-    → (calm → status ≢ 6 → (status ≡ status_of stop played) × Appends o n (text_of played ++ stop_text stop)) → AppendsFront o n (text_of played ++ stop_text stop)
-    → Answered (λ a. IsAnswerOf s a) calm status history o n
-told_by s stop calm status k played history o n same config safe run is said part =
-    told_all s stop calm status played history o n (subst (λ (ss : List Step). HasRun s ss stop) (sym same) run) is (subst (λ (c : Config). IsSafe c played) config safe) said part
-
 pub gives_line : (e : ScriptFault) (r : Result Script ℕ) (place : ℕ) → e ≡ faults.Line place → Gives (Err e) r → r ≡ Err place
 gives_line e r place is h = subst (λ (v : ScriptFault). Gives (Err v) r) is h
 
-pub said_line : (text : List ℕ) (place : ℕ) (calm : Type 0) (status : ℕ) (history : List Step) (o n : Option (List ℕ)) (r : Result (Vec ℕ Global) OutOfMemory) → reading text ≡ Err place
-    → history ≡ [] → IfOk r (λ t. t.items ≡ fault_text place) → (calm → status ≢ 6 → IsOkAnd r (λ t. (status ≡ 3) × Appends o n t.items))
-    → MatchResult r (λ t. AppendsFront o n t.items) (λ _. n ≡ o) → Answered (λ a. IsAnswerToReading (reading text) a) calm status history o n
-said_line text place calm status history o n r is none written said part = (
+pub said_line : (text : List ℕ) (place : ℕ) (calm : Type 0) (status : ℕ) (history : List Step) (notes : List Note) (o n : Option (List ℕ)) (r : Result (Vec ℕ Global) OutOfMemory)
+    → reading text ≡ Err place → history ≡ [] → notes ≡ [] → IfOk r (λ t. t.items ≡ fault_text place) → (calm → status ≢ 6 → IsOkAnd r (λ t. (status ≡ 3) × Appends o n t.items))
+    → MatchResult r (λ t. AppendsFront o n t.items) (λ _. n ≡ o) → Answered (λ a. IsAnswerToReading (reading text) a) calm status history notes o n
+said_line text place calm status history notes o n r is none unnoted written said part = (
   fault_answer 3 (fault_text place),
   subst (λ (v : Result Script ℕ). IsAnswerToReading v (fault_answer 3 (fault_text place))) (sym is) refl,
-  said_fault (fault_answer 3 (fault_text place)) calm status history o n r refl no_tablets none written said part,
+  said_fault (fault_answer 3 (fault_text place)) calm status history notes o n r refl refl no_tablets none unnoted written said part,
 )
 
-pub said_usage : (words : List (List ℕ)) (text word : List ℕ) (calm : Type 0) (status : ℕ) (history : List Step) (o n : Option (List ℕ)) (r : Result (Vec ℕ Global) OutOfMemory)
-    → usage_fault words ≡ Some word → history ≡ [] → IfOk r (λ t. t.items ≡ usage_text word) → (calm → status ≢ 6 → IsOkAnd r (λ t. (status ≡ 2) × Appends o n t.items))
-    → MatchResult r (λ t. AppendsFront o n t.items) (λ _. n ≡ o) → Answered (λ a. IsAnswerTo words text a) calm status history o n
-said_usage words text word calm status history o n r is none written said part = (
+pub said_usage : (words : List (List ℕ)) (text word : List ℕ) (calm : Type 0) (status : ℕ) (history : List Step) (notes : List Note) (o n : Option (List ℕ)) (r : Result (Vec ℕ Global) OutOfMemory)
+    → usage_fault words ≡ Some word → history ≡ [] → notes ≡ [] → IfOk r (λ t. t.items ≡ usage_text word) → (calm → status ≢ 6 → IsOkAnd r (λ t. (status ≡ 2) × Appends o n t.items))
+    → MatchResult r (λ t. AppendsFront o n t.items) (λ _. n ≡ o) → Answered (λ a. IsAnswerTo words text a) calm status history notes o n
+said_usage words text word calm status history notes o n r is none unnoted written said part = (
   fault_answer 2 (usage_text word),
   subst (λ (v : Option (List ℕ)). IsAnswerBy v text (fault_answer 2 (usage_text word))) (sym is) refl,
-  said_fault (fault_answer 2 (usage_text word)) calm status history o n r refl no_tablets none written said part,
+  said_fault (fault_answer 2 (usage_text word)) calm status history notes o n r refl refl no_tablets none unnoted written said part,
 )
 
 -- words with a reading leave the answer to the text
-pub read_words : (words : List (List ℕ)) (text : List ℕ) (calm : Type 0) (status : ℕ) (history : List Step) (o n : Option (List ℕ)) → usage_fault words ≡ None
-    → Answered (λ a. IsAnswerToReading (reading text) a) calm status history o n → Answered (λ a. IsAnswerTo words text a) calm status history o n
-read_words words text calm status history o n is h =
+pub read_words : (words : List (List ℕ)) (text : List ℕ) (calm : Type 0) (status : ℕ) (history : List Step) (notes : List Note) (o n : Option (List ℕ)) → usage_fault words ≡ None
+    → Answered (λ a. IsAnswerToReading (reading text) a) calm status history notes o n → Answered (λ a. IsAnswerTo words text a) calm status history notes o n
+read_words words text calm status history notes o n is h =
     (h.0, subst (λ (v : Option (List ℕ)). IsAnswerBy v text h.0) (sym is) h.1, h.2)
 
 -- ---- the text that was read, or could have been

@@ -2,22 +2,26 @@
 use Rattle.std.specs.Prelude.{◌≡◌, ◌≢◌, ℕ, List, [], ◌++◌, Option, Some, None, Result, Ok, Err}
 use Rattle.std.specs.Io.KnownBytes.{Appends}
 use Rattle.shard_base.specs.Lists.{IsFront}
-use Rattle.shard_core.specs.World.{Config}
-use Rattle.shard_core.specs.Kept.{IsSafe}
-use Rattle.shard_core.specs.declared.event.Step.{Step}
+use Rattle.shard_calls.specs.World.{Config}
+use Rattle.shard_calls.specs.Safe.{IsSafe}
+use Rattle.shard_calls.specs.declared.event.Step.{Step}
 use Rattle.shard_script.specs.declared.script.Script.{Script}
 use Rattle.shard_script.specs.Script.{reading}
 use Rattle.shard_top.specs.declared.player.Stop.{Stop}
-use Rattle.shard_top.specs.Played.{first_moment, config_of, Want, IsRunOf}
-use Rattle.shard_top.specs.Texts.{text_of, stop_text, status_of, usage_text, fault_text}
+use Rattle.vtctld_text.specs.declared.note.Note.{Note}
+use Rattle.vtctld_text.specs.Notes.{text_with}
+use Rattle.shard_top.specs.Played.{first_moment, config_of}
+use Rattle.shard_top.specs.Playing.{HasRun}
+use Rattle.shard_top.specs.Texts.{stop_text, status_of, usage_text, fault_text}
 use Rattle.shard_top.specs.Words.{usage_fault}
 use Rattle.shard_top.specs.Streams.{AppendsFront}
 
--- a status, the configuration that was declared, the kept history, and the bytes that are written
+-- a status, the configuration that was declared, the kept history with its notes, and the bytes that are written
 pub record Answer : Type 0 where
   pub status : ℕ
   pub config : Config
   pub history : List Step
+  pub notes : List Note
   pub written : List ℕ
 
 -- of words or a text that declare nothing
@@ -26,16 +30,15 @@ no_config = record { tablets = []; moment = first_moment }
 
 -- A script is played to a stop, with some wants of memory, and the answers are written, with the reason of the stop.
 pub record IsAnswerOf (s : Script) (a : Answer) : Type 0 where
-  pub wants : List Want
   pub stop : Stop
-  pub run : IsRunOf s wants a.history stop
-  pub status : a.status ≡ status_of stop a.history
+  pub played : HasRun s a.history a.notes stop
+  pub status : a.status ≡ status_of stop a.history a.notes
   pub config : a.config ≡ config_of s
-  pub written : a.written ≡ text_of a.history ++ stop_text stop
+  pub written : a.written ≡ text_with a.history a.notes ++ stop_text stop
 
 -- nothing is played, this is the status, and this is written
 abbrev pub fault_answer : ℕ → List ℕ → Answer
-fault_answer status written = record { status = status; config = no_config; history = []; written = written }
+fault_answer status written = record { status = status; config = no_config; history = []; notes = []; written = written }
 
 -- status 3 exactly where the script has no reading
 abbrev pub IsAnswerToReading : Result Script ℕ → Answer → Type 0
@@ -51,11 +54,12 @@ IsAnswerBy None text a = IsAnswerToReading (reading text) a
 abbrev pub IsAnswerTo : List (List ℕ) → List ℕ → Answer → Type 0
 IsAnswerTo words text a = IsAnswerBy (usage_fault words) text a
 
--- A call answered so, where the sink did not fail and memory did not run out. In any case the history is a front of this one, and what was
--- written is a front of these bytes.
-pub record Answers (a : Answer) (calm : Type 0) (status : ℕ) (history : List Step) (old new : Option (List ℕ)) : Type 0 where
+-- A call answered so, where the sink did not fail and memory did not run out. In any case the history and its notes are fronts of these, and
+-- what was written is a front of these bytes.
+pub record Answers (a : Answer) (calm : Type 0) (status : ℕ) (history : List Step) (notes : List Note) (old new : Option (List ℕ)) : Type 0 where
   pub whole : calm → status ≢ 6 → (status ≡ a.status) × Appends old new a.written
-  pub kept : status ≢ 6 → history ≡ a.history
+  pub kept : status ≢ 6 → (history ≡ a.history) × (notes ≡ a.notes)
   pub front : IsFront history a.history
+  pub front_notes : IsFront notes a.notes
   pub written : AppendsFront old new a.written
   pub safe : IsSafe a.config history

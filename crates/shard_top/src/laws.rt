@@ -1,4 +1,4 @@
-ghost use Rattle.shard_top.specs.Laws.{OneRun, PlaysToStop, PlayedIsRun};
+ghost use Rattle.shard_top.specs.Laws.{OneRun, PlaysToStop, PlayedIsRun, NotesInPlace};
 
 /// With given wants of memory a script plays one run, to one stop.
 pub fn one_run()
@@ -13,4 +13,9 @@ pub fn plays_to_stop()
 /// What is played is a run of the machine, in which each command keeps to its course, or leaves for want of memory.
 pub fn played_is_run()
     ensures { PlayedIsRun }
+{}
+
+/// The notes of what is played stand in the order of their places, and none behind the last step.
+pub fn notes_in_place()
+    ensures { NotesInPlace }
 {}

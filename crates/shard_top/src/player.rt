@@ -1,13 +1,20 @@
-ghost use Rattle.std.specs.Prelude.{◌≡◌, ◌<◌, ◌-◌, ◌^◌, drop, length};
-ghost use Rattle.shard_core.specs.World.{main_name, open_of, open_command};
+ghost use Rattle.std.specs.Prelude.{◌≡◌, ◌<◌, ◌≤◌, ◌-◌, ◌^◌, true, is_some, drop, length, IfOk, MatchResult};
+ghost use Rattle.shard_calls.specs.World.{main_name, open_of, open_command};
 ghost use Rattle.shard_core.specs.Kept.{world_of};
 ghost use Rattle.shard_script.specs.declared.script.Action.TheVariants as actions;
-ghost use Rattle.shard_top.specs.Played.{asked, gives, turned, finished, turns_on, finishes_on, gives_on, go_on, turn_of, finish_of, starts, start_at, plain_move, first_player};
+ghost use Rattle.planned.specs.Course.{next};
+ghost use Rattle.planned.specs.Leaving.{or_else};
+ghost use Rattle.shard_calls.specs.declared.event.Event.TheVariants as events;
+ghost use Rattle.shard_top.specs.declared.player.Start.TheVariants as forms;
+ghost use Rattle.shard_top.specs.declared.player.Task.TheVariants as tasks;
+ghost use Rattle.shard_top.specs.Played.{delivery, offer, arrival, pump, asked, gives, turned, finished, turns_on, finishes_on, gives_on, settles, go_on, turn_of, finish_of, unless_refused, starts, start_at, plain_move, first_player};
 
-use courses::next;
-use shard_core::{Command, CommandState, Event, Shard};
-use shard_names::Name;
+use shard_base::OutOfMemory;
+use shard_calls::{Command, CommandState, Event, Side};
+use shard_core::Shard;
+use shard_names::{Alias, Name};
 use shard_script::Action;
+use vtctld_text::RefusedAction;
 
 /// What is being done.
 #[derive(Clone, Copy)]
@@ -29,30 +36,55 @@ pub enum Task {
         asked: Command,
         again: u64,
     },
+    /// Messages come and entries are offered, until nothing comes of itself any more.
+    Settles,
 }
 
-/// Where a script stands: what is being done, and the place of the line that comes after, from 0.
+/// Where a script stands: what is being done, the place of the line that comes after, from 0, and how many lines were refused.
 #[derive(Clone, Copy)]
 pub struct Player {
     pub task: Task,
     pub line: u64,
+    pub noted: u64,
 }
 
 /// How a task goes on: by an event, after which this is the task; not at all, since the command of this actor has nothing to do and has
 /// not ended; or it is done.
-#[derive(Clone, Copy)]
+#[derive(Drop)]
 pub enum Go {
     Makes { event: Event, task: Task },
     Blocked { name: Name },
     Finished,
 }
 
+/// What a line does first: it goes on like a task, or it is refused, which is noted.
+#[derive(Drop)]
+pub enum Start {
+    Goes { go: Go },
+    Notes { refused: RefusedAction },
+}
+
 /// How a script goes on.
-#[derive(Clone, Copy)]
+#[derive(Drop)]
 pub enum Move {
-    Makes { event: Event, player: Player },
-    Blocked { name: Name },
+    Makes {
+        event: Event,
+        player: Player,
+    },
+    Notes {
+        refused: RefusedAction,
+        player: Player,
+    },
+    Blocked {
+        name: Name,
+    },
     Over,
+}
+
+/// The command for which memory ran out while it was worked out what it does next.
+#[derive(Clone, Copy)]
+pub(crate) struct Wanting {
+    pub(crate) command: u64,
 }
 
 /// Why a run stops.
@@ -83,20 +115,67 @@ pub(crate) fn first_player() -> Player
     Player {
         task: Task::Free,
         line: 0,
+        noted: 0,
+    }
+}
+
+// ---- a pump
+
+fn next_of(shard: &Shard, command: u64) -> Result<Option<Event>, OutOfMemory>
+    ensures { IfOk result (λ event. event ≡ next shard.now.config (world_of shard.now) command) }
+{
+    let fields = shard.fields();
+    planned::next(fields.alloc, fields, command)
+}
+
+/// The coming of the least message that may come to its receiver.
+fn delivery(shard: &Shard) -> Option<Event>
+    ensures { result ≡ delivery (world_of shard.now) }
+{
+    match shard.deliverable() {
+        Some(message) => Some(Event::Deliver { message }),
+        None => None,
+    }
+}
+
+/// The sending of an entry to the first tablet that may be offered one.
+fn offer(shard: &Shard) -> Option<Event>
+    ensures { result ≡ offer shard.now.config (world_of shard.now) }
+{
+    match shard.offerable() {
+        Some(alias) => Some(Event::Offer { alias }),
+        None => None,
+    }
+}
+
+/// What comes of itself.
+fn arrival(shard: &Shard) -> Option<Event>
+    ensures { result ≡ arrival shard.now.config (world_of shard.now) }
+{
+    match delivery(shard) {
+        Some(event) => Some(event),
+        None => offer(shard),
+    }
+}
+
+/// What the command does next, or else what comes of itself. Only the command's own event wants memory.
+fn pump(shard: &Shard, command: u64) -> Result<Option<Event>, OutOfMemory>
+    ensures { IfOk result (λ event. event ≡ pump shard.now.config (world_of shard.now) command) }
+{
+    match next_of(shard, command)? {
+        Some(event) => Ok(Some(event)),
+        None => Ok(arrival(shard)),
     }
 }
 
 // ---- what a task does next
 
 /// An event that a line asks for, with the task that it sets. Where its condition does not hold it is left out.
-fn asked(shard: &Shard, event: &Event, task: &Task) -> Go
-    ensures { result ≡ asked shard.now.config (world_of shard.now) event.now task.now }
+fn asked(shard: &Shard, event: Event, task: &Task) -> Go
+    ensures { result ≡ asked shard.now.config (world_of shard.now) event task.now }
 {
-    if shard.meets(event) {
-        Go::Makes {
-            event: *event,
-            task: *task,
-        }
+    if shard.meets(&event) {
+        Go::Makes { event, task: *task }
     } else {
         Go::Finished
     }
@@ -119,12 +198,12 @@ fn gives(shard: &Shard, command: &Command, count: u64) -> Go
         asked: *command,
         again: count - 1,
     };
-    asked(shard, &event, &task)
+    asked(shard, event, &task)
 }
 
-/// At most so many events.
-fn turned(command: u64, left: u64, event: &Option<Event>) -> Go
-    ensures { result ≡ turned command left event.now }
+/// At most so many pumps.
+fn turned(command: u64, left: u64, event: Option<Event>) -> Go
+    ensures { result ≡ turned command left event }
 {
     match event {
         None => Go::Finished,
@@ -134,7 +213,7 @@ fn turned(command: u64, left: u64, event: &Option<Event>) -> Go
             } else {
                 let left = left - 1;
                 Go::Makes {
-                    event: *event,
+                    event,
                     task: Task::Turns { command, left },
                 }
             }
@@ -143,63 +222,82 @@ fn turned(command: u64, left: u64, event: &Option<Event>) -> Go
 }
 
 /// Events until the command has ended.
-fn finished(state: &CommandState, task: &Task, event: &Option<Event>) -> Go
-    ensures { result ≡ finished state.now task.now event.now }
+fn finished(state: &CommandState, task: &Task, event: Option<Event>) -> Go
+    ensures { result ≡ finished state.now task.now event }
 {
     match event {
         None => Go::Blocked { name: state.actor },
-        Some(event) => Go::Makes {
-            event: *event,
-            task: *task,
+        Some(event) => Go::Makes { event, task: *task },
+    }
+}
+
+fn turns_on(shard: &Shard, command: u64, left: u64) -> Result<Go, Wanting>
+    ensures { MatchResult result (λ it. it ≡ turns_on shard.now.config (world_of shard.now) command left (open_command (world_of shard.now) command)) (λ want. is_some (open_command (world_of shard.now) want.command) ≡ true) }
+{
+    match shard.command(command) {
+        None => Ok(Go::Finished),
+        Some(_) => match pump(shard, command) {
+            Ok(event) => Ok(turned(command, left, event)),
+            Err(OutOfMemory) => Err(Wanting { command }),
         },
     }
 }
 
-fn turns_on(shard: &Shard, command: u64, left: u64) -> Go
-    ensures { result ≡ turns_on shard.now.config (world_of shard.now) command left (open_command (world_of shard.now) command) }
+fn finishes_on(shard: &Shard, command: u64) -> Result<Go, Wanting>
+    ensures { MatchResult result (λ it. it ≡ finishes_on shard.now.config (world_of shard.now) command (open_command (world_of shard.now) command)) (λ want. is_some (open_command (world_of shard.now) want.command) ≡ true) }
 {
     match shard.command(command) {
-        None => Go::Finished,
-        Some(_) => turned(command, left, &next(shard, command)),
+        None => Ok(Go::Finished),
+        Some(state) => match pump(shard, command) {
+            Ok(event) => {
+                let task = Task::Finishes { command };
+                Ok(finished(state, &task, event))
+            }
+            Err(OutOfMemory) => Err(Wanting { command }),
+        },
     }
 }
 
-fn finishes_on(shard: &Shard, command: u64) -> Go
-    ensures { result ≡ finishes_on shard.now.config (world_of shard.now) command (open_command (world_of shard.now) command) }
-{
-    match shard.command(command) {
-        None => Go::Finished,
-        Some(state) => {
-            let task = Task::Finishes { command };
-            finished(state, &task, &next(shard, command))
-        }
-    }
-}
-
-fn gives_on(shard: &Shard, command: u64, again: &Command, count: u64) -> Go
+fn gives_on(shard: &Shard, command: u64, again: &Command, count: u64) -> Result<Go, Wanting>
     requires few { length (world_of shard.now).commands < 2 ^ 64 - 1 }
-    ensures { result ≡ gives_on shard.now.config (world_of shard.now) command again.now count (open_command (world_of shard.now) command) }
+    ensures { MatchResult result (λ it. it ≡ gives_on shard.now.config (world_of shard.now) command again.now count (open_command (world_of shard.now) command)) (λ want. is_some (open_command (world_of shard.now) want.command) ≡ true) }
 {
     match shard.command(command) {
-        None => gives(shard, again, count),
-        Some(state) => {
-            let task = Task::Gives {
-                command,
-                asked: *again,
-                again: count,
-            };
-            finished(state, &task, &next(shard, command))
-        }
+        None => Ok(gives(shard, again, count)),
+        Some(state) => match pump(shard, command) {
+            Ok(event) => {
+                let task = Task::Gives {
+                    command,
+                    asked: *again,
+                    again: count,
+                };
+                Ok(finished(state, &task, event))
+            }
+            Err(OutOfMemory) => Err(Wanting { command }),
+        },
+    }
+}
+
+/// What comes of itself, as long as there is anything.
+fn settles(event: Option<Event>) -> Go
+    ensures { result ≡ settles event }
+{
+    match event {
+        None => Go::Finished,
+        Some(event) => Go::Makes {
+            event,
+            task: Task::Settles,
+        },
     }
 }
 
 /// How the task goes on.
-fn go_on(shard: &Shard, task: &Task) -> Go
+fn go_on(shard: &Shard, task: &Task) -> Result<Go, Wanting>
     requires few { length (world_of shard.now).commands < 2 ^ 64 - 1 }
-    ensures { result ≡ go_on shard.now.config (world_of shard.now) task.now }
+    ensures { MatchResult result (λ it. it ≡ go_on shard.now.config (world_of shard.now) task.now) (λ want. is_some (open_command (world_of shard.now) want.command) ≡ true) }
 {
     match task {
-        Task::Free => Go::Finished,
+        Task::Free => Ok(Go::Finished),
         Task::Turns { command, left } => turns_on(shard, *command, *left),
         Task::Finishes { command } => finishes_on(shard, *command),
         Task::Gives {
@@ -207,92 +305,202 @@ fn go_on(shard: &Shard, task: &Task) -> Go
             asked,
             again,
         } => gives_on(shard, *command, asked, *again),
+        Task::Settles => Ok(settles(arrival(shard))),
     }
 }
 
 // ---- what a line does first
 
-fn turn_of(shard: &Shard, name: &Name, pumps: u64) -> Go
-    ensures { result ≡ turn_of shard.now.config (world_of shard.now) pumps (open_of (world_of shard.now).actors name.now) }
+fn turn_of(shard: &Shard, name: &Name, pumps: u64) -> Result<Go, Wanting>
+    ensures { MatchResult result (λ it. it ≡ turn_of shard.now.config (world_of shard.now) pumps (open_of (world_of shard.now).actors name.now)) (λ want. is_some (open_command (world_of shard.now) want.command) ≡ true) }
 {
     match shard.open_of(name) {
-        None => Go::Finished,
+        None => Ok(Go::Finished),
         Some(command) => turns_on(shard, command, pumps),
     }
 }
 
-fn finish_of(shard: &Shard, name: &Name) -> Go
-    ensures { result ≡ finish_of shard.now.config (world_of shard.now) (open_of (world_of shard.now).actors name.now) }
+fn finish_of(shard: &Shard, name: &Name) -> Result<Go, Wanting>
+    ensures { MatchResult result (λ it. it ≡ finish_of shard.now.config (world_of shard.now) (open_of (world_of shard.now).actors name.now)) (λ want. is_some (open_command (world_of shard.now) want.command) ≡ true) }
 {
     match shard.open_of(name) {
-        None => Go::Finished,
+        None => Ok(Go::Finished),
         Some(command) => finishes_on(shard, command),
     }
 }
 
-fn start(shard: &Shard, name: &Name, command: &Command) -> Go
-    ensures { result ≡ starts shard.now.config (world_of shard.now) (actions.Start name.now command.now) }
+fn start_command(shard: &Shard, name: &Name, command: &Command) -> Go
+    ensures { result ≡ asked shard.now.config (world_of shard.now) (events.Begin name.now command.now) tasks.Free }
 {
     let event = Event::Begin {
         actor: *name,
         command: *command,
     };
-    asked(shard, &event, &Task::Free)
+    asked(shard, event, &Task::Free)
+}
+
+/// An event that a line asks for. Where its condition does not hold the line is refused.
+fn unless_refused(shard: &Shard, event: Event, refused: RefusedAction) -> Start
+    ensures { result ≡ unless_refused shard.now.config (world_of shard.now) event refused }
+{
+    if shard.meets(&event) {
+        let go = Go::Makes {
+            event,
+            task: Task::Free,
+        };
+        Start::Goes { go }
+    } else {
+        Start::Notes { refused }
+    }
+}
+
+/// An event that a line asks for and nothing refuses.
+fn plainly(shard: &Shard, event: Event) -> Go
+    ensures { result ≡ asked shard.now.config (world_of shard.now) event tasks.Free }
+{
+    asked(shard, event, &Task::Free)
+}
+
+fn cut(shard: &Shard, x: &Side, y: &Side) -> Go
+    ensures { result ≡ asked shard.now.config (world_of shard.now) (events.Cut x.now y.now) tasks.Free }
+{
+    let event = Event::Cut { x: *x, y: *y };
+    plainly(shard, event)
+}
+
+fn mend(shard: &Shard, x: &Side, y: &Side) -> Go
+    ensures { result ≡ asked shard.now.config (world_of shard.now) (events.Mend x.now y.now) tasks.Free }
+{
+    let event = Event::Mend { x: *x, y: *y };
+    plainly(shard, event)
+}
+
+fn crash(shard: &Shard, alias: &Alias, keep: u64) -> Go
+    ensures { result ≡ asked shard.now.config (world_of shard.now) (events.Crash alias.now keep) tasks.Free }
+{
+    let event = Event::Crash {
+        alias: *alias,
+        keep,
+    };
+    plainly(shard, event)
+}
+
+fn tick(shard: &Shard, milliseconds: u64) -> Go
+    ensures { result ≡ asked shard.now.config (world_of shard.now) (events.Tick milliseconds) tasks.Free }
+{
+    let event = Event::Tick { milliseconds };
+    plainly(shard, event)
+}
+
+/// A write round the primary, which a tablet that is down refuses.
+fn local(shard: &Shard, alias: &Alias) -> Start
+    ensures { result ≡ starts shard.now.config (world_of shard.now) (actions.Local alias.now) }
+{
+    let event = Event::Local { alias: *alias };
+    let refused = RefusedAction::IsDown { alias: *alias };
+    unless_refused(shard, event, refused)
+}
+
+/// The tablet comes up, unless it is.
+fn restart(shard: &Shard, alias: &Alias) -> Start
+    ensures { result ≡ starts shard.now.config (world_of shard.now) (actions.Restart alias.now) }
+{
+    let event = Event::Restart { alias: *alias };
+    let refused = RefusedAction::IsUp { alias: *alias };
+    unless_refused(shard, event, refused)
+}
+
+/// The message is lost, if there is one of this number.
+fn lose(shard: &Shard, message: u64) -> Start
+    ensures { result ≡ starts shard.now.config (world_of shard.now) (actions.Lose message) }
+{
+    let event = Event::Lose { message };
+    let refused = RefusedAction::NoMessage { message };
+    unless_refused(shard, event, refused)
+}
+
+/// The message comes to its receiver, also once more, if it may.
+fn repeat(shard: &Shard, message: u64) -> Start
+    ensures { result ≡ starts shard.now.config (world_of shard.now) (actions.Repeat message) }
+{
+    let event = Event::Deliver { message };
+    let refused = RefusedAction::NotDeliverable { message };
+    unless_refused(shard, event, refused)
+}
+
+fn goes(go: Go) -> Start
+    ensures { result ≡ forms.Goes go }
+{
+    Start::Goes { go }
 }
 
 /// What the line does first.
-fn starts(shard: &Shard, line: &Action) -> Go
+fn starts(shard: &Shard, line: &Action) -> Result<Start, Wanting>
     requires few { length (world_of shard.now).commands < 2 ^ 64 - 1 }
-    ensures { result ≡ starts shard.now.config (world_of shard.now) line.now }
+    ensures { MatchResult result (λ it. it ≡ starts shard.now.config (world_of shard.now) line.now) (λ want. is_some (open_command (world_of shard.now) want.command) ≡ true) }
 {
     match line {
-        Action::Play { command, count } => gives(shard, command, *count),
-        Action::Start { name, command } => start(shard, name, command),
-        Action::Turn { name, pumps } => turn_of(shard, name, *pumps),
-        Action::Finish { name } => finish_of(shard, name),
-        Action::Lapse => asked(shard, &Event::Lapse, &Task::Free),
-        Action::Tick { milliseconds } => {
-            let event = Event::Tick {
-                milliseconds: *milliseconds,
-            };
-            asked(shard, &event, &Task::Free)
-        }
+        Action::Play { command, count } => Ok(goes(gives(shard, command, *count))),
+        Action::Start { name, command } => Ok(goes(start_command(shard, name, command))),
+        Action::Turn { name, pumps } => Ok(goes(turn_of(shard, name, *pumps)?)),
+        Action::Finish { name } => Ok(goes(finish_of(shard, name)?)),
+        Action::Settle => Ok(goes(settles(arrival(shard)))),
+        Action::Local { alias } => Ok(local(shard, alias)),
+        Action::Crash { alias, keep } => Ok(goes(crash(shard, alias, *keep))),
+        Action::Restart { alias } => Ok(restart(shard, alias)),
+        Action::Cut { x, y } => Ok(goes(cut(shard, x, y))),
+        Action::Mend { x, y } => Ok(goes(mend(shard, x, y))),
+        Action::Lose { message } => Ok(lose(shard, *message)),
+        Action::Repeat { message } => Ok(repeat(shard, *message)),
+        Action::Lapse => Ok(goes(plainly(shard, Event::Lapse))),
+        Action::Tick { milliseconds } => Ok(goes(tick(shard, *milliseconds))),
     }
 }
 
 // ---- moves
 
-/// What the first of the lines from this place does that does anything.
-fn start_at(shard: &Shard, lines: &[Action], at: u64) -> Move
+/// What the first of the lines from this place does that does anything. So many lines were refused before.
+fn start_at(shard: &Shard, lines: &[Action], at: u64, noted: u64) -> Result<Move, Wanting>
     requires few { length (world_of shard.now).commands < 2 ^ 64 - 1 }
-    ensures { result ≡ start_at shard.now.config (world_of shard.now) at (drop at lines.now) }
+    requires each_line_once { noted ≤ at }
+    ensures { MatchResult result (λ it. it ≡ start_at shard.now.config (world_of shard.now) noted at (drop at lines.now)) (λ want. is_some (open_command (world_of shard.now) want.command) ≡ true) }
 {
-    for line in at as usize..lines.len() {
-        match starts(shard, &lines[line]) {
-            Go::Makes { event, task } => {
-                let line = line as u64 + 1;
-                let player = Player { task, line };
-                return Move::Makes { event, player };
+    for place in at as usize..lines.len() {
+        let line = place as u64 + 1;
+        match starts(shard, &lines[place])? {
+            Start::Goes { go } => match go {
+                Go::Makes { event, task } => {
+                    let player = Player { task, line, noted };
+                    return Ok(Move::Makes { event, player });
+                }
+                Go::Blocked { name } => return Ok(Move::Blocked { name }),
+                Go::Finished => {}
+            },
+            Start::Notes { refused } => {
+                let player = Player {
+                    task: Task::Free,
+                    line,
+                    noted: noted + 1,
+                };
+                return Ok(Move::Notes { refused, player });
             }
-            Go::Blocked { name } => return Move::Blocked { name },
-            Go::Finished => {}
         }
     }
-    Move::Over
+    Ok(Move::Over)
 }
 
 /// What the player does next where there is memory.
-pub(crate) fn plain_move(shard: &Shard, lines: &[Action], player: &Player) -> Move
+pub(crate) fn plain_move(shard: &Shard, lines: &[Action], player: &Player) -> Result<Move, Wanting>
     requires few { length (world_of shard.now).commands < 2 ^ 64 - 1 }
-    ensures { result ≡ plain_move shard.now.config (world_of shard.now) lines.now player.now }
+    requires each_line_once { player.now.noted ≤ player.now.line }
+    ensures { MatchResult result (λ it. it ≡ plain_move shard.now.config (world_of shard.now) lines.now player.now) (λ want. is_some (open_command (world_of shard.now) want.command) ≡ true) }
 {
-    match go_on(shard, &player.task) {
+    match go_on(shard, &player.task)? {
         Go::Makes { event, task } => {
-            let line = player.line;
-            let player = Player { task, line };
-            Move::Makes { event, player }
+            let player = Player { task, ..*player };
+            Ok(Move::Makes { event, player })
         }
-        Go::Blocked { name } => Move::Blocked { name },
-        Go::Finished => start_at(shard, lines, player.line),
+        Go::Blocked { name } => Ok(Move::Blocked { name }),
+        Go::Finished => start_at(shard, lines, player.line, player.noted),
     }
 }

@@ -1,19 +1,23 @@
-ghost use Rattle.std.specs.Prelude.{◌≡◌, ◌≤◌, ◌<◌, [], length, List, ℕ, true, nat_le, IfOk, OnOk, OnErr, IsOk, Option, Some, None};
-ghost use Rattle.shard_core.specs.World.{open_command};
+ghost use Rattle.std.specs.Prelude.{◌≡◌, ◌≤◌, ◌<◌, [], ◌∷◌, ◌++◌, length, List, ℕ, true, nat_le, is_some, IfOk, OnOk, OnErr, IsOk, MatchResult, Option, Some, None};
+ghost use Rattle.shard_calls.specs.World.{open_command};
 ghost use Rattle.shard_core.specs.Room.{has_room_kept};
-ghost use Rattle.shard_core.specs.Table.{Met};
+ghost use Rattle.shard_calls.specs.Table.{Met};
 ghost use Rattle.shard_core.specs.Kept.{Makes, world_of};
-ghost use Rattle.courses.specs.OnCourse.{IsOnCourse};
+ghost use Rattle.planned.specs.Course.{leaves};
+ghost use Rattle.planned.specs.Follows.{maker_of};
+ghost use Rattle.planned.specs.Laws.{NextIsMet};
 ghost use Rattle.shard_script.specs.declared.script.Action.{Action as Line};
 ghost use Rattle.shard_top.specs.declared.player.Move.TheVariants as moves;
-ghost use Rattle.shard_top.specs.Played.{Want, first_moment, config_of, maker_of, plain_move, IsRunOf, IsCutOff};
-ghost use Rattle.shard_top.specs.Playing.{still_open, Playing, IsStopped, IsCut, IsTurn};
+ghost use Rattle.shard_top.specs.Played.{first_moment, config_of, plain_move};
+ghost use Rattle.vtctld_text.specs.declared.note.Note.{Note as Noted};
+ghost use Rattle.shard_top.specs.Playing.{still_open, Playing, IsStopped, IsCut, IsTurn, HasRun, WasCutOff};
 
-use crate::player::{Move, Player, Stop, Task, first_player, plain_move};
-use courses::leaves;
+use crate::player::{Move, Player, Stop, Task, Wanting, first_player, plain_move};
 use shard_base::OutOfMemory;
-use shard_core::{Event, MOST_STEPS, Refused, Shard};
+use shard_calls::Event;
+use shard_core::{MOST_STEPS, Refused, Shard};
 use shard_script::{Action, Script};
+use vtctld_text::{Note, RefusedAction};
 
 /// The moment at which the clock begins: 2024-01-01T00:00:00Z, in milliseconds since the start of 1970.
 #[tactic(auto, unfolding(crate::specs::Played::first_moment))]
@@ -45,11 +49,21 @@ fn maker_of(event: &Event) -> Option<u64>
         Event::Take { command } => Some(*command),
         Event::Read { command } => Some(*command),
         Event::Intend { command, .. } => Some(*command),
-        Event::Promote { command, .. } => Some(*command),
         Event::Record { command, .. } => Some(*command),
         Event::Release { command } => Some(*command),
         Event::Lapse => None,
+        Event::Send { command, .. } => Some(*command),
+        Event::Deliver { .. } => None,
+        Event::GiveUp { command, .. } => Some(*command),
+        Event::Offer { .. } => None,
         Event::Write { command, .. } => Some(*command),
+        Event::Tell { command } => Some(*command),
+        Event::Local { .. } => None,
+        Event::Crash { .. } => None,
+        Event::Restart { .. } => None,
+        Event::Cut { .. } => None,
+        Event::Mend { .. } => None,
+        Event::Lose { .. } => None,
         Event::Tick { .. } => None,
         Event::End { command, .. } => Some(*command),
     }
@@ -72,14 +86,14 @@ fn is_full(shard: &Shard) -> bool
 }
 
 /// A step whose condition holds, in a history with room.
-fn make(shard: &mut Shard, event: &Event) -> Result<(), OutOfMemory>
-    requires met { Met shard.old.config (world_of shard.old) event.now }
+fn make(shard: &mut Shard, event: Event) -> Result<(), OutOfMemory>
+    requires met { Met shard.old.config (world_of shard.old) event }
     requires room { length shard.old.steps < 1000000 }
-    ensures made { OnOk result (Makes shard.old shard.new event.now) }
+    ensures made { OnOk result (Makes shard.old shard.new event) }
     ensures err { OnErr result (shard.new ≡ shard.old) }
-    ensures kept { has_room_kept (world_of shard.old) event.now ≡ true → IsOk result }
+    ensures kept { has_room_kept (world_of shard.old) event ≡ true → IsOk result }
 {
-    match shard.apply(*event) {
+    match shard.apply(event) {
         Ok(_) => Ok(()),
         Err(Refused::OutOfMemory) => Err(OutOfMemory),
         Err(Refused::Unmet { .. }) => unreachable!(),
@@ -88,11 +102,11 @@ fn make(shard: &mut Shard, event: &Event) -> Result<(), OutOfMemory>
 }
 
 /// A step for which room was kept.
-fn make_kept(shard: &mut Shard, event: &Event)
-    requires met { Met shard.old.config (world_of shard.old) event.now }
+fn make_kept(shard: &mut Shard, event: Event)
+    requires met { Met shard.old.config (world_of shard.old) event }
     requires room { length shard.old.steps < 1000000 }
-    requires kept { has_room_kept (world_of shard.old) event.now ≡ true }
-    ensures { Makes shard.old shard.new event.now }
+    requires kept { has_room_kept (world_of shard.old) event ≡ true }
+    ensures { Makes shard.old shard.new event }
 {
     match make(shard, event) {
         Ok(()) => {}
@@ -100,35 +114,49 @@ fn make_kept(shard: &mut Shard, event: &Event)
     }
 }
 
+/// How the open command leaves that has run out of memory.
+fn leaves(shard: &Shard, command: u64) -> Event
+    ensures { result ≡ leaves (world_of shard.now) command }
+{
+    planned::leaves(shard.fields(), command)
+}
+
 /// The open command, which has run out of memory, frees the lock, or else ends. It takes no memory.
 fn leave(shard: &mut Shard, command: u64, player: &Player) -> Turn
-    requires course { IsOnCourse shard.old.config (world_of shard.old) }
-    requires open { still_open (world_of shard.old) (Some command) ≡ Some command }
-    ensures { (lines : List Line) → Playing lines shard.old player.now (Some command) → IsTurn lines shard.old shard.new result }
+    requires is_open { still_open (world_of shard.old) (Some command) ≡ Some command }
+    ensures { (lines : List Line) (notes : List Noted) → Playing lines shard.old notes player.now (Some command) → IsTurn lines shard.old notes shard.new notes result }
 {
     if is_full(shard) {
         return Turn::Stops { stop: Stop::Full };
     }
     let event = leaves(shard, command);
-    make_kept(shard, &event);
+    make_kept(shard, event);
     let leaving = Some(command);
     let player = *player;
     Turn::On { player, leaving }
 }
 
-/// Memory has run out in this event: its command leaves. Where no command makes it, all ends.
-fn give_up(shard: &mut Shard, event: &Event, player: &Player) -> Result<Turn, OutOfMemory>
-    requires met { Met shard.old.config (world_of shard.old) event.now }
-    requires course { IsOnCourse shard.old.config (world_of shard.old) }
-    ensures turn { IfOk result (λ turn. (lines : List Line) (leaving : Option ℕ) → still_open (world_of shard.old) leaving ≡ None
-        → Playing lines shard.old player.now leaving → IsTurn lines shard.old shard.new turn) }
-    ensures err { OnErr result (shard.new ≡ shard.old) }
-    ensures cut { OnErr result (maker_of event.now ≡ None) }
+/// Memory has run out for a command that is open: it leaves.
+fn leave_now(shard: &mut Shard, command: u64, player: &Player) -> Turn
+    requires is_open { is_some (open_command (world_of shard.old) command) ≡ true }
+    ensures { (lines : List Line) (notes : List Noted) (leaving : Option ℕ) → still_open (world_of shard.old) leaving ≡ None
+        → Playing lines shard.old notes player.now leaving → IsTurn lines shard.old notes shard.new notes result }
 {
-    match maker_of(event) {
+    leave(shard, command, player)
+}
+
+/// Memory has run out in an event of this command, which leaves. Where no command makes it, all ends.
+fn give_up(shard: &mut Shard, maker: Option<u64>, player: &Player) -> Result<Turn, OutOfMemory>
+    requires is_open { (c : ℕ) → maker ≡ Some c → is_some (open_command (world_of shard.old) c) ≡ true }
+    ensures turn { IfOk result (λ turn. (lines : List Line) (notes : List Noted) (leaving : Option ℕ) → still_open (world_of shard.old) leaving ≡ None
+        → Playing lines shard.old notes player.now leaving → IsTurn lines shard.old notes shard.new notes turn) }
+    ensures err { OnErr result (shard.new ≡ shard.old) }
+    ensures cut { OnErr result (maker ≡ None) }
+{
+    match maker {
         None => Err(OutOfMemory),
         Some(command) => {
-            let turn = leave(shard, command, player);
+            let turn = leave_now(shard, command, player);
             Ok(turn)
         }
     }
@@ -137,47 +165,74 @@ fn give_up(shard: &mut Shard, event: &Event, player: &Player) -> Result<Turn, Ou
 /// The event, or else the end of its command.
 fn make_or_leave(
     shard: &mut Shard,
-    event: &Event,
+    event: Event,
     player: &Player,
     next: &Player,
     leaving: Option<u64>,
 ) -> Result<Turn, OutOfMemory>
-    requires met { Met shard.old.config (world_of shard.old) event.now }
-    requires course { IsOnCourse shard.old.config (world_of shard.old) }
+    requires met { Met shard.old.config (world_of shard.old) event }
+    requires is_open { (c : ℕ) → maker_of event ≡ Some c → is_some (open_command (world_of shard.old) c) ≡ true }
     requires room { length shard.old.steps < 1000000 }
     requires closed { still_open (world_of shard.old) leaving ≡ None }
-    ensures turn { IfOk result (λ turn. (lines : List Line) → Playing lines shard.old player.now leaving
-        → plain_move shard.old.config (world_of shard.old) lines player.now ≡ moves.Makes event.now next.now → IsTurn lines shard.old shard.new turn) }
+    ensures turn { IfOk result (λ turn. (lines : List Line) (notes : List Noted) → Playing lines shard.old notes player.now leaving
+        → plain_move shard.old.config (world_of shard.old) lines player.now ≡ moves.Makes event next.now → IsTurn lines shard.old notes shard.new notes turn) }
     ensures err { OnErr result (shard.new ≡ shard.old) }
-    ensures cut { OnErr result (maker_of event.now ≡ None) }
+    ensures cut { OnErr result (maker_of event ≡ None) }
 {
+    let maker = maker_of(&event);
     match make(shard, event) {
         Ok(()) => {
             let player = *next;
             Ok(Turn::On { player, leaving })
         }
-        Err(_) => give_up(shard, event, player),
+        Err(_) => give_up(shard, maker, player),
     }
 }
 
-/// One turn, where no command leaves.
-fn plain_turn(
+/// Notes that a line was refused, behind the steps of the history.
+fn note(shard: &Shard, notes: &mut Vec<Note>, refused: RefusedAction) -> Result<(), OutOfMemory>
+    requires few { length shard.now.steps ≤ 1000000 }
+    ensures ok { OnOk result (notes.new.items ≡ notes.old.items ++ record { place = length shard.now.steps; action = refused } ∷ []) }
+    ensures err { OnErr result (notes.new.items ≡ notes.old.items) }
+{
+    let place = shard.history().steps.len() as u64;
+    let action = refused;
+    notes.push(Note { place, action })?;
+    Ok(())
+}
+
+/// One turn by this move, where no command leaves.
+fn turn_by(
     shard: &mut Shard,
+    notes: &mut Vec<Note>,
     lines: &[Action],
     player: &Player,
     leaving: Option<u64>,
+    made: Move,
 ) -> Result<Turn, OutOfMemory>
-    requires playing { Playing lines.now shard.old player.now leaving }
+    requires playing { Playing lines.now shard.old notes.old.items player.now leaving }
     requires closed { still_open (world_of shard.old) leaving ≡ None }
-    ensures turn { IfOk result (λ turn. IsTurn lines.now shard.old shard.new turn) }
+    requires met { NextIsMet shard.old.config (world_of shard.old) }
+    requires made { made ≡ plain_move shard.old.config (world_of shard.old) lines.now player.now }
+    ensures turn { IfOk result (λ turn. IsTurn lines.now shard.old notes.old.items shard.new notes.new.items turn) }
     ensures err { OnErr result (shard.new ≡ shard.old) }
-    ensures cut { OnErr result (IsCut lines.now shard.new) }
+    ensures cut { OnErr result (IsCut lines.now shard.new notes.new.items) }
 {
-    match plain_move(shard, lines, player) {
+    match made {
         Move::Over => Ok(Turn::Stops { stop: Stop::Over }),
         Move::Blocked { name } => {
             let stop = Stop::Blocked { name };
             Ok(Turn::Stops { stop })
+        }
+        Move::Notes {
+            refused,
+            player: next,
+        } => {
+            note(shard, notes, refused)?;
+            Ok(Turn::On {
+                player: next,
+                leaving,
+            })
         }
         Move::Makes {
             event,
@@ -186,7 +241,41 @@ fn plain_turn(
             if is_full(shard) {
                 return Ok(Turn::Stops { stop: Stop::Full });
             }
-            make_or_leave(shard, &event, player, &next, leaving)
+            make_or_leave(shard, event, player, &next, leaving)
+        }
+    }
+}
+
+/// What the player does next where there is memory; and what a command does next can be done.
+fn next_move(shard: &Shard, lines: &[Action], player: &Player) -> Result<Move, Wanting>
+    requires few { length shard.now.steps ≤ 1000000 }
+    requires each_line_once { player.now.noted ≤ player.now.line }
+    ensures known { MatchResult result (λ it. it ≡ plain_move shard.now.config (world_of shard.now) lines.now player.now) (λ want. is_some (open_command (world_of shard.now) want.command) ≡ true) }
+    ensures met { NextIsMet shard.now.config (world_of shard.now) }
+{
+    let _fields = shard.fields();
+    plain_move(shard, lines, player)
+}
+
+/// One turn, where no command leaves.
+fn plain_turn(
+    shard: &mut Shard,
+    notes: &mut Vec<Note>,
+    lines: &[Action],
+    player: &Player,
+    leaving: Option<u64>,
+) -> Result<Turn, OutOfMemory>
+    requires playing { Playing lines.now shard.old notes.old.items player.now leaving }
+    requires closed { still_open (world_of shard.old) leaving ≡ None }
+    ensures turn { IfOk result (λ turn. IsTurn lines.now shard.old notes.old.items shard.new notes.new.items turn) }
+    ensures err { OnErr result (shard.new ≡ shard.old) }
+    ensures cut { OnErr result (IsCut lines.now shard.new notes.new.items) }
+{
+    match next_move(shard, lines, player) {
+        Ok(made) => turn_by(shard, notes, lines, player, leaving, made),
+        Err(wanting) => {
+            let turn = leave_now(shard, wanting.command, player);
+            Ok(turn)
         }
     }
 }
@@ -194,29 +283,35 @@ fn plain_turn(
 /// One turn.
 fn take_turn(
     shard: &mut Shard,
+    notes: &mut Vec<Note>,
     lines: &[Action],
     player: &Player,
     leaving: Option<u64>,
 ) -> Result<Turn, OutOfMemory>
-    requires playing { Playing lines.now shard.old player.now leaving }
-    ensures turn { IfOk result (λ turn. IsTurn lines.now shard.old shard.new turn) }
+    requires playing { Playing lines.now shard.old notes.old.items player.now leaving }
+    ensures turn { IfOk result (λ turn. IsTurn lines.now shard.old notes.old.items shard.new notes.new.items turn) }
     ensures err { OnErr result (shard.new ≡ shard.old) }
-    ensures cut { OnErr result (IsCut lines.now shard.new) }
+    ensures cut { OnErr result (IsCut lines.now shard.new notes.new.items) }
 {
     match still_open(shard, leaving) {
         Some(command) => {
             let turn = leave(shard, command, player);
             Ok(turn)
         }
-        None => plain_turn(shard, lines, player, leaving),
+        None => plain_turn(shard, notes, lines, player, leaving),
     }
 }
 
-/// Plays the lines, one event a turn.
-fn play_lines(shard: &mut Shard, lines: &[Action]) -> Result<Stop, OutOfMemory>
+/// Plays the lines, one event or one note a turn.
+fn play_lines(
+    shard: &mut Shard,
+    notes: &mut Vec<Note>,
+    lines: &[Action],
+) -> Result<Stop, OutOfMemory>
     requires opening { shard.old.steps ≡ [] }
-    ensures ok { IfOk result (λ stop. IsStopped lines.now shard.new stop) }
-    ensures cut { OnErr result (IsCut lines.now shard.new) }
+    requires unnoted { notes.old.items ≡ [] }
+    ensures ok { IfOk result (λ stop. IsStopped lines.now shard.new notes.new.items stop) }
+    ensures cut { OnErr result (IsCut lines.now shard.new notes.new.items) }
     ensures config { shard.new.config ≡ shard.old.config }
 {
     // The proof's generator wants the type inside a player named here.
@@ -224,7 +319,7 @@ fn play_lines(shard: &mut Shard, lines: &[Action]) -> Result<Stop, OutOfMemory>
     let mut player = first_player();
     let mut leaving = None;
     loop {
-        match take_turn(shard, lines, &player, leaving)? {
+        match take_turn(shard, notes, lines, &player, leaving)? {
             Turn::On {
                 player: next,
                 leaving: command,
@@ -237,13 +332,15 @@ fn play_lines(shard: &mut Shard, lines: &[Action]) -> Result<Stop, OutOfMemory>
     }
 }
 
-/// Plays a script, and says why it stops. Where a command runs out of memory it leaves, and the script goes on. Only where memory runs
-/// out in an event of no command is that the result; what was made is then a front of what the script plays.
-pub fn play(shard: &mut Shard, script: &Script) -> Result<Stop, OutOfMemory>
+/// Plays a script, adds a note for each line that is refused, and says why it stops. Where a command runs out of memory it leaves, and the
+/// script goes on. Only where memory runs out in what no command makes is that the result; what was made is then a front of what the
+/// script plays.
+pub fn play(shard: &mut Shard, notes: &mut Vec<Note>, script: &Script) -> Result<Stop, OutOfMemory>
     requires opening { shard.old ≡ record { config = config_of script.now; steps = [] } }
+    requires unnoted { notes.old.items ≡ [] }
     ensures config { shard.new.config ≡ config_of script.now }
-    ensures ok { IfOk result (λ stop. (wants : List Want) × IsRunOf script.now wants shard.new.steps stop) }
-    ensures cut { OnErr result ((wants : List Want) × IsCutOff script.now wants shard.new.steps) }
+    ensures ok { IfOk result (λ stop. HasRun script.now shard.new.steps notes.new.items stop) }
+    ensures cut { OnErr result (WasCutOff script.now shard.new.steps notes.new.items) }
 {
-    play_lines(shard, script.actions.as_slice())
+    play_lines(shard, notes, script.actions.as_slice())
 }

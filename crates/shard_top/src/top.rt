@@ -1,13 +1,14 @@
 ghost use Rattle.std.specs.Prelude.{◌≡◌, ◌≢◌, ◌≤◌, ◌<◌, ◌++◌, [], List, ℕ, map, IsOkAnd, IsSome, MatchResult};
 ghost use Rattle.std.specs.Io.KnownBytes.{Appends};
 ghost use Rattle.shard_base.specs.Faults.{Rose, Calm};
-ghost use Rattle.shard_core.specs.World.{Config};
+ghost use Rattle.shard_calls.specs.World.{Config};
 ghost use Rattle.shard_script.specs.Script.{Fits, reading};
 ghost use Rattle.shard_top.specs.Streams.{AppendsFront, WasRead};
-ghost use Rattle.shard_top.specs.Texts.{read_fault_text, text_of, stop_text, status_of};
+ghost use Rattle.vtctld_text.specs.Notes.{text_with, AreInPlace};
+ghost use Rattle.shard_top.specs.Texts.{read_fault_text, stop_text, status_of};
 ghost use Rattle.shard_top.specs.Words.{usage_fault};
 ghost use Rattle.shard_top.specs.Program.{Answer, IsAnswerOf, IsAnswerToReading, IsAnswerTo, Answers};
-ghost use Rattle.shard_core.specs.Kept.{IsSafe};
+ghost use Rattle.shard_calls.specs.Safe.{IsSafe};
 
 use crate::player::Stop;
 use crate::playing::{first_moment, play};
@@ -16,9 +17,11 @@ use crate::source::{ReadFault, Source, read_all};
 use crate::texts::{fault_text, read_fault_text, run_text, status_of, usage_text};
 use crate::words::usage_fault;
 use shard_base::OutOfMemory;
-use shard_core::{History, Shard};
+use shard_calls::History;
+use shard_core::Shard;
 use shard_script::{Script, ScriptFault, read_text};
 use std::alloc::Global;
+use vtctld_text::Note;
 
 /// How the program ended, and the history that it kept.
 #[derive(Drop)]
@@ -28,17 +31,21 @@ pub struct Outcome {
     /// ends had nothing to do; 8 where a further event would be more than a history has.
     pub status: u8,
     pub history: History,
+    /// The lines that were refused.
+    pub notes: Vec<Note>,
 }
 
 fn ended(alloc: Global, status: u8) -> Outcome
     ensures status { result.status ≡ status }
     ensures empty { result.history.steps.items ≡ [] }
+    ensures unnoted { result.notes.items ≡ [] }
 {
     Outcome {
         status,
         history: History {
             steps: Vec::new(alloc),
         },
+        notes: Vec::new(alloc),
     }
 }
 
@@ -64,27 +71,40 @@ fn say<O: Sink>(sink: &mut O, text: Result<Vec<u8>, OutOfMemory>, status: u8) ->
     }
 }
 
-/// Writes the answers of a history, and why its run stopped.
-fn tell<O: Sink>(alloc: Global, history: History, stop: &Stop, output: &mut O) -> Outcome
+/// Writes the answers of a history with its notes, and why its run stopped.
+fn tell<O: Sink>(
+    alloc: Global,
+    history: History,
+    notes: Vec<Note>,
+    stop: &Stop,
+    output: &mut O,
+) -> Outcome
+    requires { AreInPlace history.steps.items notes.items }
     ensures kept { result.history.steps.items ≡ history.steps.items }
+    ensures kept_notes { result.notes.items ≡ notes.items }
     ensures said { Calm (O.faults output.old) (O.faults output.new) → result.status ≢ 6
-        → (result.status ≡ status_of stop.now history.steps.items) × Appends (O.taken output.old) (O.taken output.new) (text_of history.steps.items ++ stop_text stop.now) }
-    ensures part { AppendsFront (O.taken output.old) (O.taken output.new) (text_of history.steps.items ++ stop_text stop.now) }
+        → (result.status ≡ status_of stop.now history.steps.items notes.items)
+        × Appends (O.taken output.old) (O.taken output.new) (text_with history.steps.items notes.items ++ stop_text stop.now) }
+    ensures part { AppendsFront (O.taken output.old) (O.taken output.new) (text_with history.steps.items notes.items ++ stop_text stop.now) }
     ensures cause { result.status ≡ 5 → Rose (O.faults output.old) (O.faults output.new) }
     ensures failed { O.faults output.old < O.faults output.new → result.status ≡ 5 }
     ensures not_read { result.status ≢ 4 }
 {
-    let done = status_of(stop, &history.steps);
-    let text = run_text(alloc, &history.steps, stop);
+    let done = status_of(stop, &history.steps, &notes);
+    let text = run_text(alloc, &history.steps, &notes, stop);
     let status = say(output, text, done);
-    Outcome { status, history }
+    Outcome {
+        status,
+        history,
+        notes,
+    }
 }
 
 /// Plays a script, and writes what comes of it.
 fn run_script<O: Sink>(alloc: Global, script: &Script, output: &mut O) -> Outcome
     requires { Fits script.now }
     ensures answers { (a : Answer) × IsAnswerOf script.now a
-        × Answers a (Calm (O.faults output.old) (O.faults output.new)) result.status result.history.steps.items (O.taken output.old) (O.taken output.new) }
+        × Answers a (Calm (O.faults output.old) (O.faults output.new)) result.status result.history.steps.items result.notes.items (O.taken output.old) (O.taken output.new) }
     ensures cause { result.status ≡ 5 → Rose (O.faults output.old) (O.faults output.new) }
     ensures failed { O.faults output.old < O.faults output.new → result.status ≡ 5 }
     ensures not_read { result.status ≢ 4 }
@@ -93,18 +113,20 @@ fn run_script<O: Sink>(alloc: Global, script: &Script, output: &mut O) -> Outcom
         Ok(shard) => shard,
         Err(_) => return ended(alloc, 6),
     };
-    match play(&mut shard, script) {
-        Ok(stop) => tell(alloc, shard.into_history(), &stop, output),
+    let mut notes = Vec::new(alloc);
+    match play(&mut shard, &mut notes, script) {
+        Ok(stop) => tell(alloc, shard.into_history(), notes, &stop, output),
         Err(OutOfMemory) => Outcome {
             status: 6,
             history: shard.into_history(),
+            notes,
         },
     }
 }
 
 fn run_reading<O: Sink>(alloc: Global, text: &[u8], output: &mut O) -> Outcome
     ensures answers { (a : Answer) × IsAnswerToReading (reading text.now) a
-        × Answers a (Calm (O.faults output.old) (O.faults output.new)) result.status result.history.steps.items (O.taken output.old) (O.taken output.new) }
+        × Answers a (Calm (O.faults output.old) (O.faults output.new)) result.status result.history.steps.items result.notes.items (O.taken output.old) (O.taken output.new) }
     ensures cause { result.status ≡ 5 → Rose (O.faults output.old) (O.faults output.new) }
     ensures failed { O.faults output.old < O.faults output.new → result.status ≡ 5 }
     ensures not_read { result.status ≢ 4 }
@@ -129,7 +151,7 @@ pub fn step_words<I: Source, O: Sink>(
     // Where the source did not fail, the answer is one to the words and the text that it gave.
     ensures answered { Calm (I.faults input.old) (I.faults input.new) → (text : List ℕ) × WasRead (I.left input.old) text
         × ((a : Answer) × IsAnswerTo (map (λ w. w.items) words.now.items) text a
-        × Answers a (Calm (O.faults output.old) (O.faults output.new)) result.status result.history.steps.items (O.taken output.old) (O.taken output.new)) }
+        × Answers a (Calm (O.faults output.old) (O.faults output.new)) result.status result.history.steps.items result.notes.items (O.taken output.old) (O.taken output.new)) }
     ensures unread { IsSome (usage_fault (map (λ w. w.items) words.now.items)) → I.left input.new ≡ I.left input.old }
 
     // A stream that failed is told by the status, which a stream that did not fail never gives.
@@ -138,6 +160,7 @@ pub fn step_words<I: Source, O: Sink>(
     ensures read { result.status ≡ 4 → Rose (I.faults input.old) (I.faults input.new) }
     ensures read_said { result.status ≡ 4 → Appends (O.taken output.old) (O.taken output.new) read_fault_text }
     ensures read_kept { result.status ≡ 4 → result.history.steps.items ≡ [] }
+    ensures read_noted { result.status ≡ 4 → result.notes.items ≡ [] }
     ensures write { result.status ≡ 5 → Rose (O.faults output.old) (O.faults output.new) }
 
     // Whatever the streams did, the history is a run of the machine.
@@ -167,7 +190,7 @@ pub fn vtshard_words<I: Source, O: Sink>(
     // Where the source did not fail, the answer is one to the words and the text that it gave.
     ensures answered { Calm (I.faults input.old) (I.faults input.new) → (text : List ℕ) × WasRead (I.left input.old) text
         × ((a : Answer) × IsAnswerTo (map (λ w. w.items) words.now.items) text a
-        × Answers a (Calm (O.faults output.old) (O.faults output.new)) result.status result.history.steps.items (O.taken output.old) (O.taken output.new)) }
+        × Answers a (Calm (O.faults output.old) (O.faults output.new)) result.status result.history.steps.items result.notes.items (O.taken output.old) (O.taken output.new)) }
     ensures unread { IsSome (usage_fault (map (λ w. w.items) words.now.items)) → I.left input.new ≡ I.left input.old }
 
     // A stream that failed is told by the status, which a stream that did not fail never gives.
@@ -176,6 +199,7 @@ pub fn vtshard_words<I: Source, O: Sink>(
     ensures read { result.status ≡ 4 → Rose (I.faults input.old) (I.faults input.new) }
     ensures read_said { result.status ≡ 4 → Appends (O.taken output.old) (O.taken output.new) read_fault_text }
     ensures read_kept { result.status ≡ 4 → result.history.steps.items ≡ [] }
+    ensures read_noted { result.status ≡ 4 → result.notes.items ≡ [] }
     ensures write { result.status ≡ 5 → Rose (O.faults output.old) (O.faults output.new) }
 
     // Whatever the streams did, the history is a run of the machine.

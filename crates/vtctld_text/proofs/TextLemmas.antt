@@ -10,6 +10,10 @@ on_ok_map (Err e) f h = tt
 pub piece_behind : {T E : Type 0} (r : Result T E) (a b c t d : List ℕ) → b ≡ a ++ t → OnOk r (c ≡ b ++ d) → OnOk r (c ≡ a ++ (t ++ d))
 piece_behind r a b c t d is h = on_ok_map r (λ e. e ∙ ap (λ (x : List ℕ). x ++ d) is ∙ append_assoc a t d) h
 
+pub three_pieces : (a b c d p q r : List ℕ) → b ≡ a ++ p → c ≡ b ++ q → d ≡ c ++ r → d ≡ a ++ (p ++ q ++ r)
+three_pieces a b c d p q r one two three =
+    three ∙ ap (λ (x : List ℕ). x ++ r) two ∙ ap (λ (x : List ℕ). (x ++ q) ++ r) one ∙ ap (λ (x : List ℕ). x ++ r) (append_assoc a p q) ∙ append_assoc a (p ++ q) r
+
 -- pieces behind a piece
 pub pieces_behind : (a b c d e p q r s : List ℕ) → b ≡ a ++ p → c ≡ b ++ q → d ≡ c ++ r → e ≡ d ++ s → e ≡ a ++ (p ++ q ++ r ++ s)
 pieces_behind a b c d e p q r s one two three four =

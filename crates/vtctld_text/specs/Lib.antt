@@ -2,3 +2,4 @@ pub mod Moments
 pub mod Stands
 pub mod Refusals
 pub mod Texts
+pub mod Notes

@@ -1,11 +1,14 @@
 ghost use Rattle.std.specs.Prelude.{◌≡◌, ◌++◌, ◌∷◌, [], IfOk, OnOk};
 ghost use Rattle.std.specs.Option.{option_copied};
 ghost use Rattle.std.specs.List.{flat_map};
+ghost use Rattle.std.specs.List.Sorted.{IsNonDecreasingBy};
 ghost use Rattle.shard_calls.specs.World.{numbered};
 ghost use Rattle.vtctld_text.specs.Texts.{begun_by, commands_of, event_text, text_of, refuses, has_refusal};
+ghost use Rattle.vtctld_text.specs.Notes.{texts_with, text_with, AreInPlace, has_refusal_with};
 
 use crate::answer::{is_refused, write_answer};
 use crate::begun::Begun;
+use crate::note::{Note, write_notes_at};
 use shard_base::OutOfMemory;
 use shard_calls::{Command, Event, Step};
 use shard_names::{Alias, Name};
@@ -86,6 +89,35 @@ pub fn text_of(alloc: Global, steps: &[Step]) -> Result<Vec<u8>, OutOfMemory>
     write_events(alloc, &commands, steps)
 }
 
+/// The texts of the steps and the lines of the notes, each behind its step.
+fn write_with(
+    alloc: Global,
+    commands: &[Begun],
+    steps: &[Step],
+    notes: &[Note],
+) -> Result<Vec<u8>, OutOfMemory>
+    requires { IsNonDecreasingBy (λ n. n.place) notes.now }
+    ensures { IfOk result (λ text. text.items ≡ texts_with commands.now steps.now notes.now) }
+{
+    let mut text = Vec::new(alloc);
+    let mut done = write_notes_at(notes, 0, 0, &mut text)?;
+    for (index, step) in steps.iter().enumerate() {
+        write_event(commands, &step.event, &mut text)?; // and then its notes
+        done = write_notes_at(notes, done, index as u64 + 1, &mut text)?;
+    }
+    Ok(text)
+}
+
+/// As `text_of`, with a line for each script action that was refused, behind the text of the steps that stood before it. Notes of one
+/// place are in the order in which they are listed.
+pub fn text_with(alloc: Global, steps: &[Step], notes: &[Note]) -> Result<Vec<u8>, OutOfMemory>
+    requires { AreInPlace steps.now notes.now }
+    ensures { IfOk result (λ text. text.items ≡ text_with steps.now notes.now) }
+{
+    let commands = commands_of(alloc, steps)?;
+    write_with(alloc, &commands, steps, notes)
+}
+
 fn refuses(event: &Event) -> bool
     ensures { result ≡ refuses event.now }
 {
@@ -100,4 +132,11 @@ pub fn has_refusal(steps: &[Step]) -> bool
     ensures { result ≡ has_refusal steps.now }
 {
     steps.iter().any(|step| refuses(&step.event))
+}
+
+/// Whether a command that ended, or an action of the script, was refused.
+pub fn has_refusal_with(steps: &[Step], notes: &[Note]) -> bool
+    ensures { result ≡ has_refusal_with steps.now notes.now }
+{
+    has_refusal(steps) || !notes.is_empty()
 }

@@ -4,11 +4,15 @@
 mod answer;
 mod begun;
 mod history;
+mod laws;
 mod moment;
+mod note;
 mod number;
 mod refusal;
 mod stand;
 #[cfg(test)]
 mod tests;
 
-pub use history::{has_refusal, text_of};
+pub use history::{has_refusal, has_refusal_with, text_of, text_with};
+pub use laws::{each_note_is_printed_once, without_notes_is_text_of};
+pub use note::{Note, RefusedAction};

@@ -1,5 +1,7 @@
+ghost use Rattle.std.specs.Prelude.{◌≡◌};
+
 use crate::moment::write_moment;
-use crate::{has_refusal, text_of};
+use crate::{Note, RefusedAction, has_refusal, has_refusal_with, text_of, text_with};
 use gtid_sets::{Gtid, GtidSet};
 use shard_base::{Items, OutOfMemory};
 use shard_calls::{
@@ -423,5 +425,44 @@ fn counts_refusals(rt: HostRuntime) -> Result<(), Fail> {
         position: GtidSet::empty(alloc),
     };
     assert!(rt; !has_refusal_by(shown));
+    Ok(())
+}
+
+fn note(place: u64, action: RefusedAction) -> Note
+    ensures { result ≡ record { place = place; action = action } }
+{
+    Note { place, action }
+}
+
+#[test]
+fn prints_notes_behind_their_steps(rt: HostRuntime) -> Result<(), Fail> {
+    let alloc = rt.alloc();
+    let up = alias(&rt, b"zone1-100");
+    let down = alias(&rt, b"zone1-101");
+    let steps = [
+        began(name(&rt, b"p"), write()),
+        ended(CommandAnswer::NoPrimaryRecorded),
+    ];
+    let notes = [
+        note(0, RefusedAction::NoMessage { message: 7 }),
+        note(1, RefusedAction::NotDeliverable { message: 3 }),
+        note(2, RefusedAction::IsUp { alias: up }),
+        note(2, RefusedAction::IsDown { alias: down }),
+    ];
+    let text = text_with(alloc, &steps, &notes)?;
+    let want =
+        b"lose: no message 7\nrepeat: message 3 cannot be delivered\n[p] write: no primary recorded\n\
+                 restart: zone1-0000000100 is up\nlocal: zone1-0000000101 is down\n";
+    assert_eq!(rt; text.as_slice(), want.as_slice());
+    Ok(())
+}
+
+#[test]
+fn counts_refused_actions(rt: HostRuntime) -> Result<(), Fail> {
+    let steps = [ended(CommandAnswer::NoPrimaryRecorded)];
+    assert!(rt; has_refusal_with(&steps, &[]));
+    assert!(rt; !has_refusal_with(&[], &[]));
+    let notes = [note(0, RefusedAction::NoMessage { message: 0 })];
+    assert!(rt; has_refusal_with(&[], &notes));
     Ok(())
 }

@@ -92,7 +92,6 @@ fn plays(rt: &impl Abort, alloc: Global, rows: &[Row]) -> Result<(), Fail> {
 
 #[test]
 fn scripts_are_played(rt: HostRuntime) -> Result<(), Fail> {
-    let no_primary = "write: no primary recorded\n";
     let rows = [
         Row {
             script: &[THREE_REPLICAS, FIRST_RUN],
@@ -104,6 +103,18 @@ fn scripts_are_played(rt: HostRuntime) -> Result<(), Fail> {
             printed: "",
             status: 0,
         },
+        Row {
+            script: &[THREE_REPLICAS, "write 1\n"],
+            printed: "write: no primary recorded\n",
+            status: 1,
+        },
+    ];
+    plays(&rt, rt.alloc(), &rows)
+}
+
+#[test]
+fn reparents_are_refused(rt: HostRuntime) -> Result<(), Fail> {
+    let rows = [
         Row {
             script: &[
                 THREE_REPLICAS,
@@ -121,11 +132,6 @@ write: no primary recorded
 PlannedReparentShard commerce/0 --new-primary zone1-103\n",
             ],
             printed: "PlannedReparentShard commerce/0: refused 4 NotEligible: zone1-0000000103 must_not\n",
-            status: 1,
-        },
-        Row {
-            script: &[THREE_REPLICAS, "write 1\n"],
-            printed: no_primary,
             status: 1,
         },
         Row {
@@ -202,7 +208,7 @@ finish p
 }
 
 #[test]
-fn started_commands_go_on(rt: HostRuntime) -> Result<(), Fail> {
+fn clients_write_as_they_come(rt: HostRuntime) -> Result<(), Fail> {
     let rows = [
         // Two clients write: the one who writes first has the first number.
         Row {
@@ -234,6 +240,13 @@ finish p
 ",
             status: 1,
         },
+    ];
+    plays(&rt, rt.alloc(), &rows)
+}
+
+#[test]
+fn turns_stop_at_the_end(rt: HostRuntime) -> Result<(), Fail> {
+    let rows = [
         // A command that has ended goes on no more.
         Row {
             script: &[
@@ -273,6 +286,210 @@ write 1
 write: committed 00000000-0000-4000-8000-000000000100:2 on zone1-0000000100 in term 1
 ",
             status: 0,
+        },
+    ];
+    plays(&rt, rt.alloc(), &rows)
+}
+
+#[test]
+fn tablets_crash_and_come_up(rt: HostRuntime) -> Result<(), Fail> {
+    let rows = [
+        // What a tablet that is down or up refuses is noted, each line in its place.
+        Row {
+            script: &[
+                THREE_REPLICAS,
+                "local zone1-101
+crash zone1-101 keep 0
+local zone1-101
+show zone1-101
+restart zone1-101
+restart zone1-101
+show zone1-101
+",
+            ],
+            printed: "local: zone1-0000000101 is down
+show zone1-0000000101: down, position MySQL56/00000000-0000-4000-8000-000000000101:1
+restart: zone1-0000000101 is up
+show zone1-0000000101: stopped, position MySQL56/00000000-0000-4000-8000-000000000101:1
+",
+            status: 1,
+        },
+        // Nobody can say any more whether what it wrote counts as committed.
+        Row {
+            script: &[
+                THREE_REPLICAS,
+                "PlannedReparentShard commerce/0 --new-primary zone1-100
+start p write 1
+turn p 1
+crash zone1-100 keep 0
+finish p
+write 1
+",
+            ],
+            printed: "PlannedReparentShard commerce/0: promoted zone1-0000000100 in term 1
+[p] write: unknown 00000000-0000-4000-8000-000000000100:2 on zone1-0000000100 in term 1
+write: not primary: zone1-0000000100 is down
+",
+            status: 1,
+        },
+    ];
+    plays(&rt, rt.alloc(), &rows)
+}
+
+#[test]
+fn links_are_cut_and_mended(rt: HostRuntime) -> Result<(), Fail> {
+    let rows = [
+        Row {
+            script: &[
+                THREE_REPLICAS,
+                "cut control zone1-100
+PlannedReparentShard commerce/0 --new-primary zone1-100
+",
+            ],
+            printed: "PlannedReparentShard commerce/0: refused 8 Unreachable: zone1-0000000100 cut\n",
+            status: 1,
+        },
+        Row {
+            script: &[
+                THREE_REPLICAS,
+                "cut control zone1-100
+start p PlannedReparentShard commerce/0 --new-primary zone1-100
+turn p 4
+mend zone1-100 control
+finish p
+",
+            ],
+            printed: "[p] PlannedReparentShard commerce/0: promoted zone1-0000000100 in term 1\n",
+            status: 0,
+        },
+        // Who cannot be asked, or has an entry of its own, does not join.
+        Row {
+            script: &[
+                THREE_REPLICAS,
+                "cut control zone1-101
+local zone1-102
+PlannedReparentShard commerce/0 --new-primary zone1-100
+",
+            ],
+            printed: "PlannedReparentShard commerce/0: promoted zone1-0000000100 in term 1
+  not joined zone1-0000000101: cut
+  not joined zone1-0000000102: errant 00000000-0000-4000-8000-000000000102:1
+",
+            status: 0,
+        },
+    ];
+    plays(&rt, rt.alloc(), &rows)
+}
+
+#[test]
+fn replicas_follow_their_source(rt: HostRuntime) -> Result<(), Fail> {
+    let rows = [Row {
+        script: &[
+            THREE_REPLICAS,
+            "PlannedReparentShard commerce/0 --new-primary zone1-100
+settle
+local zone1-101
+cut zone1-100 zone1-101
+write 1
+settle
+show zone1-101
+show zone1-102
+",
+        ],
+        printed: "PlannedReparentShard commerce/0: promoted zone1-0000000100 in term 1
+write: committed 00000000-0000-4000-8000-000000000100:2 on zone1-0000000100 in term 1
+show zone1-0000000101: replica of zone1-0000000100 in term 1, position MySQL56/00000000-0000-4000-8000-000000000100:1,00000000-0000-4000-8000-000000000101:1
+show zone1-0000000102: replica of zone1-0000000100 in term 1, position MySQL56/00000000-0000-4000-8000-000000000100:1-2
+",
+        status: 0,
+    }];
+    plays(&rt, rt.alloc(), &rows)
+}
+
+#[test]
+fn messages_are_lost_and_repeated(rt: HostRuntime) -> Result<(), Fail> {
+    let rows = [
+        Row {
+            script: &[
+                THREE_REPLICAS,
+                "lose 7
+repeat 1
+start p PlannedReparentShard commerce/0 --new-primary zone1-100
+turn p 4
+lose 1
+finish p
+",
+            ],
+            printed: "lose: no message 7
+repeat: message 1 cannot be delivered
+[p] PlannedReparentShard commerce/0: refused 8 Unreachable: zone1-0000000100 lost
+",
+            status: 1,
+        },
+        // Who waits too long gives up.
+        Row {
+            script: &[
+                THREE_REPLICAS,
+                "start p PlannedReparentShard commerce/0 --new-primary zone1-100
+turn p 4
+tick 16s
+finish p
+",
+            ],
+            printed: "[p] PlannedReparentShard commerce/0: refused 8 Unreachable: zone1-0000000100 timed out since 2024-01-01T00:00:00.000Z at 2024-01-01T00:00:16.000Z
+",
+            status: 1,
+        },
+        // A call that comes once more promotes once.
+        Row {
+            script: &[
+                THREE_REPLICAS,
+                "PlannedReparentShard commerce/0 --new-primary zone1-100
+repeat 1
+settle
+show zone1-100
+",
+            ],
+            printed: "PlannedReparentShard commerce/0: promoted zone1-0000000100 in term 1
+show zone1-0000000100: primary of term 1, position MySQL56/00000000-0000-4000-8000-000000000100:1
+",
+            status: 0,
+        },
+    ];
+    plays(&rt, rt.alloc(), &rows)
+}
+
+#[test]
+fn writes_go_to_the_tablet_that_they_name(rt: HostRuntime) -> Result<(), Fail> {
+    let rows = [
+        Row {
+            script: &[
+                THREE_REPLICAS,
+                "write 1
+write 1 to zone1-101
+restart zone1-100
+",
+            ],
+            printed: "write: no primary recorded
+write: not primary: zone1-0000000101 is stopped
+restart: zone1-0000000100 is up
+",
+            status: 1,
+        },
+        Row {
+            script: &[
+                THREE_REPLICAS,
+                "PlannedReparentShard commerce/0 --new-primary zone1-100
+write 2 to zone1-100
+write 1 to zone1-101
+",
+            ],
+            printed: "PlannedReparentShard commerce/0: promoted zone1-0000000100 in term 1
+write: committed 00000000-0000-4000-8000-000000000100:2 on zone1-0000000100 in term 1
+write: committed 00000000-0000-4000-8000-000000000100:3 on zone1-0000000100 in term 1
+write: not primary: zone1-0000000101 is replica of zone1-0000000100 in term 1
+",
+            status: 1,
         },
     ];
     plays(&rt, rt.alloc(), &rows)

@@ -2,10 +2,10 @@ use Rattle.shard_top.proofs.TopLemmas.{gave_up_text, gives_line, said_line}
 use Rattle.shard_top.proofs.top.run_reading.Goals as goal
 
 pub returns-in-Err-OutOfMemory-clause-answers : goal.returns-in-Err-OutOfMemory-clause-answers
-returns-in-Err-OutOfMemory-clause-answers g c = gave_up_text c.args.text.now _ _ _ _ c.ended.ensures.status c.ended.ensures.empty
+returns-in-Err-OutOfMemory-clause-answers g c = gave_up_text c.args.text.now _ _ _ _ _ c.ended.ensures.status c.ended.ensures.empty c.ended.ensures.unnoted
 
 pub returns-in-Err-Line-clause-answers : goal.returns-in-Err-Line-clause-answers
 returns-in-Err-Line-clause-answers g c =
     rw c.ended-in-Err-Line.ensures.status
-    (said_line c.args.text.now c.in-Err-Line.line _ c.say-status.result _ _ _ c.fault_text.result (gives_line c.in-Err-Line.field-0 _ c.in-Err-Line.line c.in-Err-Line.field-0-is c.in-Err-Line.ensures.exact) c.ended-in-Err-Line.ensures.empty c.fault_text.ensures
+    (said_line c.args.text.now c.in-Err-Line.line _ c.say-status.result _ _ _ _ c.fault_text.result (gives_line c.in-Err-Line.field-0 _ c.in-Err-Line.line c.in-Err-Line.field-0-is c.in-Err-Line.ensures.exact) c.ended-in-Err-Line.ensures.empty c.ended-in-Err-Line.ensures.unnoted c.fault_text.ensures
     c.say-status.ensures.said c.say-status.ensures.part)

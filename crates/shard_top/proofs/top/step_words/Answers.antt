@@ -8,14 +8,14 @@ returns-in-Some-clause-answered g c = λ calm.
     let words : List (List ℕ) = map (λ (w : Vec ℕ Global). w.items) c.args.words.now.items in
     let same = rw c.deref.ensures.value at c.in-Some.ensures in
     rw c.ended.ensures.status
-    (said_usage words text c.in-Some.word.now _ c.say-status.result _ _ _ c.usage_text.result (sym same) c.ended.ensures.empty c.usage_text.ensures c.say-status.ensures.said
+    (said_usage words text c.in-Some.word.now _ c.say-status.result _ _ _ _ c.usage_text.result (sym same) c.ended.ensures.empty c.ended.ensures.unnoted c.usage_text.ensures c.say-status.ensures.said
     c.say-status.ensures.part))
 
 pub returns-in-Err-OutOfMemory-clause-answered : goal.returns-in-Err-OutOfMemory-clause-answered
 returns-in-Err-OutOfMemory-clause-answered g c = λ calm.
     for_some_text _ _ (λ (text : List ℕ).
     let words : List (List ℕ) = map (λ (w : Vec ℕ Global). w.items) c.args.words.now.items in
-    gave_up_words words text _ _ _ _ c.ended-in-Err-OutOfMemory.ensures.status c.ended-in-Err-OutOfMemory.ensures.empty)
+    gave_up_words words text _ _ _ _ _ c.ended-in-Err-OutOfMemory.ensures.status c.ended-in-Err-OutOfMemory.ensures.empty c.ended-in-Err-OutOfMemory.ensures.unnoted)
 
 pub returns-in-Err-Failed-clause-safe : goal.returns-in-Err-Failed-clause-safe
 returns-in-Err-Failed-clause-safe g c = safe_empty _ c.ended-in-Err-Failed.ensures.empty

@@ -1,4 +1,8 @@
-use Rattle.std.proofs.Common.{◌≡◌, ◌∙◌, ap, List, true}
+use Rattle.std.proofs.Common.{◌≡◌, ◌∙◌, ap, sym, subst, List, [], true, length}
+use Rattle.std.proofs.lemmas.Result.{on_ok_weaker}
+use Rattle.shard_calls.specs.declared.post.Message.{Message}
+use Rattle.post.specs.Waiting.{answers_on}
+use Rattle.post.proofs.BackLemmas.{none_answers}
 use Rattle.shard_names.specs.declared.alias.Alias.{Alias}
 use Rattle.post.specs.Posted.{Posted, answers_what_was_sent}
 use Rattle.post.specs.Kept.{direction_of}
@@ -16,3 +20,14 @@ invariant_of-self c =
     let more = rw c.asked_by-call.ensures at c.add.ensures.ok_answers in
     kept_sent c.add.result a.aliases.items a.messages.items c.add.new.messages.items a.queues.items c.add.new.queues.items a.answers.items c.add.new.answers.items c.args.content c.args.now
     sent new after more c.add.ensures.err_messages c.add.ensures.err_queues c.add.ensures.err_answers c.self.invariant
+
+pub returns-clause-unanswered : goal.returns-clause-unanswered
+returns-clause-unanswered c =
+    let a = c.self.inside in
+    let sent : answers_what_was_sent a.messages.items c.args.content ≡ true = ap (λ (p : Posted). answers_what_was_sent p.messages c.args.content) c.self.view_is ∙ c.requires in
+    on_ok_weaker c.add.result
+    (λ new.
+    let one = rw c.sent_at-message.ensures at new in
+    subst (λ (ms : List Message). answers_on ms (length ms) ≡ []) (sym one)
+    (none_answers a.aliases.items a.messages.items a.queues.items a.answers.items c.args.content c.args.now c.self.invariant sent))
+    c.add.ensures.ok_messages

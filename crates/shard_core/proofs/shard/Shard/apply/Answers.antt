@@ -1,11 +1,12 @@
 use Rattle.std.proofs.Common.{◌≡◌, true, ap, sym, ◌∙◌, arith}
 use Rattle.std.proofs.lemmas.Bool.{false≢true}
+use Rattle.shard_calls.specs.Table.{meets}
+use Rattle.shard_calls.specs.World.{World}
+use Rattle.shard_state.specs.State.{data_of, seen, config_in}
 use Rattle.shard_core.specs.Kept.{Kept, world_of}
-use Rattle.shard_core.specs.Places.{data_of, seen, config_in}
 use Rattle.shard_core.specs.Room.{has_room_kept}
-use Rattle.shard_core.specs.Table.{meets}
-use Rattle.shard_core.specs.World.{World}
 use Rattle.shard_core.proofs.RoomLemmas.{owed_within, owed_becomes, room_of_kept, same_room}
+use Rattle.shard_core.proofs.RunLemmas.{met_there}
 use Rattle.shard_core.proofs.shard.Shard.apply.Goals as goal
 
 pub make-requires-clause-owed : goal.make-requires-clause-owed
@@ -20,8 +21,8 @@ make-requires-clause-owed c =
 pub invariant_of-self : goal.invariant_of-self
 invariant_of-self c = record {
   leads = c.in-Ok.ensures.leads;
-  owed = owed_becomes (data_of c.self.inside.fields) (data_of c.make.new.fields) _ c.args.event c.self.inside.owed c.owed_after-owed.result c.in-Ok.ensures.becomes
-      c.self.invariant.owed c.owed_after-owed.ensures;
+  owed = owed_becomes (data_of c.self.inside.fields) (data_of c.make.new.fields) c.args.event _ c.self.inside.owed c.owed_after-owed.result
+      (sym (met_there (data_of c.self.inside.fields) c.self.inside.history.steps.items c.args.event c.self.invariant.leads) ∙ c.in-Some.ensures.0) c.in-Ok.ensures.made c.self.invariant.owed c.owed_after-owed.ensures;
   room = c.in-Ok.ensures.room;
 }
 
@@ -31,6 +32,7 @@ returns-in-Err-clause-kept c kept err =
     let world = sym (ap (λ (k : Kept). world_of k) c.self.view_is) ∙ sym c.self.invariant.leads.world in
     let here : has_room_kept (seen kept_data) c.args.event ≡ true =
     sym (same_room kept_data c.self.inside.history.steps.items c.args.event) ∙ sym (ap (λ (w : World). has_room_kept w c.args.event) world) ∙ kept in
-    let met : meets (config_in kept_data) (seen kept_data) c.args.event ≡ true = sym c.meets.ensures ∙ c.if-not-meets.false in
+    let met : meets (config_in kept_data) (seen kept_data) c.args.event ≡ true =
+    sym (met_there kept_data c.self.inside.history.steps.items c.args.event c.self.invariant.leads) ∙ c.in-Some.ensures.0 in
     false≢true (c.in-Err.ensures.kept here
     (room_of_kept kept_data c.args.event c.self.inside.owed c.owed_after-owed.result _ _ met here c.self.invariant.owed c.owed_after-owed.ensures c.self.invariant.room))

@@ -1,6 +1,6 @@
-use Rattle.shard_core.proofs.SafeLemmas.{run_is_safe}
+use Rattle.shard_calls.proofs.RunLemmas.{every_run_is_safe}
 use Rattle.shard_core.proofs.shard.Shard.into_history.Goals as goal
 
 pub returns-clause-safe : goal.returns-clause-safe
 returns-clause-safe c =
-    rw (← c.self.view_is) (run_is_safe _ c.self.inside.history.steps.items c.self.invariant.leads.config.tablets c.self.invariant.leads.run)
+    rw (← c.self.view_is) (every_run_is_safe _ c.self.inside.history.steps.items c.self.invariant.leads.config c.self.invariant.leads.run)

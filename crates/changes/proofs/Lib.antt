@@ -1,0 +1,10 @@
+pub mod ActLemmas
+pub mod PlaceLemmas
+pub mod LockLemmas
+pub mod FewLemmas
+pub mod WriteLemmas
+pub mod DeliverLemmas
+pub mod OfferLemmas
+pub mod FewLaws
+pub mod SoundLaws
+pub mod PastLaws

@@ -1,0 +1,15 @@
+use Rattle.std.proofs.Common.{ap, ◌∙◌}
+use Rattle.shard_calls.specs.declared.stand.Stand.{Stand}
+use Rattle.shard_calls.specs.Stands.{takes_from}
+use Rattle.shard_calls.specs.Tablets.{TabletState}
+use Rattle.changes.proofs.PlaceLemmas.{nothing_declared, state_is}
+use Rattle.changes.proofs.delivery.takes_at.Goals as goal
+
+pub unreachable-requires : goal.unreachable-requires
+unreachable-requires c = nothing_declared c.args.managers.now c.args.alias.now c.in-None.ensures c.requires.declared
+
+pub returns : goal.returns
+returns c =
+    c.takes_from.ensures
+    ∙ ap (λ (at : Stand). takes_from at c.args.from.now c.args.term c.args.after) (c.stand.ensures
+    ∙ ap (λ (s : TabletState). s.stand) (state_is c.args.managers.now c.args.alias.now c.in-Some.at c.index-managers-at.result c.in-Some.ensures.1 c.index-managers-at.is))

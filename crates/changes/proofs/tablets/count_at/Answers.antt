@@ -1,0 +1,13 @@
+use Rattle.std.proofs.Common.{ap, ◌∙◌, length}
+use Rattle.shard_calls.specs.Tablets.{TabletState}
+use Rattle.tablet_manager.specs.LogState.{LogState}
+use Rattle.changes.proofs.PlaceLemmas.{nothing_declared, state_is}
+use Rattle.changes.proofs.tablets.count_at.Goals as goal
+
+pub unreachable-requires : goal.unreachable-requires
+unreachable-requires c = nothing_declared c.args.managers.now c.args.alias.now c.in-None.ensures c.requires.declared
+
+pub returns : goal.returns
+returns c =
+    ap length (c.entries.ensures ∙ ap (λ (l : LogState). l.entries) c.log.ensures
+    ∙ ap (λ (s : TabletState). s.log) (state_is c.args.managers.now c.args.alias.now c.in-Some.at c.index-managers-at.result c.in-Some.ensures.1 c.index-managers-at.is))

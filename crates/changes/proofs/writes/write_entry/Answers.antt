@@ -1,0 +1,7 @@
+use Rattle.std.proofs.Common.{arith}
+use Rattle.shard_state.specs.State.{data_of, seen}
+use Rattle.changes.proofs.FewLemmas.{few_numbers}
+use Rattle.changes.proofs.writes.write_entry.Goals as goal
+
+pub write_at-requires-clause-numbered : goal.write_at-requires-clause-numbered
+write_at-requires-clause-numbered c = λ server. omega (arith, few_numbers 1048576 (seen (data_of c.args.fields.now)) c.args.alias.now c.requires.few server)

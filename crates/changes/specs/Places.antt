@@ -1,0 +1,31 @@
+-- Where a tablet stands among the managers, and what it is to change one of them.
+use Rattle.std.specs.Prelude.{◌≡◌, ◌≢◌, ℕ, zero, suc, List, [], ◌∷◌, Some, ⊤}
+use Rattle.shard_names.specs.declared.alias.Alias.{Alias}
+use Rattle.shard_names.specs.declared.tablet.Tablet.{Tablet}
+use Rattle.shard_names.specs.Tablets.{tablet_of}
+use Rattle.shard_calls.specs.Tablets.{TabletState}
+use Rattle.shard_calls.specs.World.{at_tablet}
+use Rattle.tablet_manager.specs.Managed.{Managed}
+use Rattle.shard_state.specs.State.{tablets_of, state_at}
+use Rattle.changes.specs.Sound.{ackers_in}
+
+-- the alias stands at this place, and at none before it
+abbrev pub IsAt : List Managed → Alias → ℕ → Type 0
+IsAt [] a k = ⊥
+IsAt (m ∷ ms) a zero = m.me.alias ≡ a
+IsAt (m ∷ ms) a (suc k) = (m.me.alias ≢ a) × IsAt ms a k
+
+-- it stands nowhere
+abbrev pub IsNowhere : List Managed → Alias → Type 0
+IsNowhere [] a = ⊤
+IsNowhere (m ∷ ms) a = (m.me.alias ≢ a) × IsNowhere ms a
+
+-- the tablet of this alias is in a new state, and nothing else changes
+pub record Changes (old new : List Managed) (a : Alias) (s : TabletState) : Type 0 where
+  pub tablets : tablets_of new ≡ tablets_of old
+  pub ackers : ackers_in new ≡ ackers_in old
+  pub states : state_at new ≡ at_tablet (state_at old) a s
+
+-- the tablet becomes what a definition says of it
+abbrev pub Becomes : List Managed → List Managed → Alias → (Tablet → TabletState → TabletState) → Type 0
+Becomes old new a f = (me : Tablet) → tablet_of (tablets_of old) a ≡ Some me → Changes old new a (f me (state_at old a))

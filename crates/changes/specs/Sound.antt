@@ -1,0 +1,60 @@
+-- Messages that their receivers can take: between declared tablets, and calls that can be made of their tablet.
+use Rattle.std.specs.Prelude.{◌≡◌, ◌≤◌, ℕ, true, false, List, Some, map, ⊤}
+use Rattle.std.specs.List.{AllByRecursion}
+use Rattle.shard_names.specs.declared.alias.Alias.{Alias}
+use Rattle.shard_names.specs.Tablets.{alias_eq, is_declared}
+use Rattle.shard_calls.specs.declared.call.Call.{Call}
+use Rattle.shard_calls.specs.declared.call.Call.TheVariants as calls
+use Rattle.shard_calls.specs.declared.post.Content.{Content}
+use Rattle.shard_calls.specs.declared.post.Content.TheVariants as contents
+use Rattle.shard_calls.specs.declared.post.Message.{Message}
+use Rattle.shard_calls.specs.declared.stand.Stand.{Stand}
+use Rattle.shard_calls.specs.declared.stand.Stand.TheVariants as stands
+use Rattle.shard_calls.specs.World.{Config, World, numbered}
+use Rattle.tablet_manager.specs.Managed.{Managed, ackers_of}
+use Rattle.shard_state.specs.State.{Data, tablets_of}
+
+-- a tablet replicates from another, in a term that is not above that of the call
+abbrev pub FitsCall : Alias → ℕ → Call → Type 0
+FitsCall to term calls.Status = ⊤
+FitsCall to term calls.Stop = ⊤
+FitsCall to term calls.Demote = ⊤
+FitsCall to term (calls.Promote p) = ⊤
+FitsCall to term (calls.SetSource source t p) = (alias_eq source to ≡ false) × (t ≤ term)
+FitsCall to term (calls.WaitTold until) = ⊤
+
+-- the source that a call names is declared
+abbrev pub NamesSource : Config → Call → Type 0
+NamesSource config calls.Status = ⊤
+NamesSource config calls.Stop = ⊤
+NamesSource config calls.Demote = ⊤
+NamesSource config (calls.Promote p) = ⊤
+NamesSource config (calls.SetSource source t p) = is_declared config.tablets source ≡ true
+NamesSource config (calls.WaitTold until) = ⊤
+
+abbrev pub IsSoundContent : Config → Content → Type 0
+IsSoundContent config (contents.Asks command term to call) = (is_declared config.tablets to ≡ true) × (FitsCall to term call × NamesSource config call)
+IsSoundContent config (contents.Answers command asked from says) = is_declared config.tablets from ≡ true
+IsSoundContent config (contents.Feeds from to term after index e) = (is_declared config.tablets from ≡ true) × (is_declared config.tablets to ≡ true)
+IsSoundContent config (contents.Acks from to term index) = (is_declared config.tablets from ≡ true) × (is_declared config.tablets to ≡ true)
+
+-- a replica's source is declared, and it waits for an entry
+abbrev pub HasSource : Config → Stand → Type 0
+HasSource config stands.Down = ⊤
+HasSource config stands.Stopped = ⊤
+HasSource config (stands.Primary t) = ⊤
+HasSource config (stands.Demoted t by) = ⊤
+HasSource config (stands.Replica source t next) = (is_declared config.tablets source ≡ true) × (1 ≤ next)
+
+pub record AreSound (config : Config) (w : World) : Type 0 where
+  pub post : (k : ℕ) (m : Message) → numbered w.post k ≡ Some m → IsSoundContent config m.content
+  pub sources : (a : Alias) → HasSource config (w.tablets a).stand
+
+-- the tablets that may acknowledge to each tablet
+abbrev pub ackers_in : List Managed → List (List Alias)
+ackers_in managers = map ackers_of managers
+
+-- the post knows the tablets, and each tablet may acknowledge to each
+pub record Fits (d : Data) : Type 0 where
+  pub aliases : d.aliases ≡ map (λ t. t.alias) (tablets_of d.managers)
+  pub ackers : AllByRecursion (λ xs. xs ≡ d.aliases) (ackers_in d.managers)

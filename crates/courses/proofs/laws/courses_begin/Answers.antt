@@ -1,5 +1,0 @@
-use Rattle.courses.proofs.CourseLemmas as courses
-use Rattle.courses.proofs.laws.courses_begin.Goals as goal
-
-pub returns : goal.returns
-returns c = courses.courses_begin

@@ -1,4 +1,0 @@
-pub mod Course
-pub mod OnCourse
-pub mod Laws
-pub mod Pending

@@ -1,0 +1,34 @@
+-- How a command leaves: with an answer or a refusal, and without the lock. After the shard lock of PlannedReparentShard (Vitess manual).
+use Rattle.std.specs.Prelude.{ℕ, Bool, not, ◌&&◌, List, [], ◌∷◌, Option, Some, None, is_some, if◌then◌else◌}
+use Rattle.shard_calls.specs.declared.command.CommandAnswer.{CommandAnswer}
+use Rattle.shard_calls.specs.declared.command.CommandAnswer.TheVariants as answers
+use Rattle.shard_calls.specs.declared.command.Refusal.{Refusal}
+use Rattle.shard_calls.specs.declared.event.Event.{Event}
+use Rattle.shard_calls.specs.declared.event.Event.TheVariants as events
+use Rattle.shard_calls.specs.declared.state.CommandState.{CommandState}
+
+-- whether it took the lock, and has made no Release
+abbrev pub owes_release : CommandState → Bool
+owes_release s = is_some s.term && not s.released
+
+-- with this answer: it frees the lock once, if it took it, and ends
+abbrev pub leaving : ℕ → CommandState → CommandAnswer → Event
+leaving c s x = if owes_release s then events.Release c else events.End c x
+
+abbrev pub refusing : ℕ → CommandState → Refusal → Event
+refusing c s refusal = leaving c s (answers.Refused refusal)
+
+-- it leaves if it is refused, and else goes on like this
+abbrev pub unless_refused : ℕ → CommandState → Option Refusal → List Event → List Event
+unless_refused c s None rest = rest
+unless_refused c s (Some refusal) rest = refusing c s refusal ∷ []
+
+-- ---- what the first of a list gives that gives anything
+
+abbrev pub or_else : {A : Type 0} → Option A → Option A → Option A
+or_else None other = other
+or_else (Some x) other = Some x
+
+abbrev pub first_by : {A B : Type 0} → (A → Option B) → List A → Option B
+first_by f [] = None
+first_by f (x ∷ xs) = or_else (f x) (first_by f xs)

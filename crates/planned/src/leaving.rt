@@ -1,0 +1,47 @@
+ghost use Rattle.std.specs.Prelude.{◌≡◌};
+ghost use Rattle.shard_state.specs.State.{data_of, seen};
+ghost use Rattle.planned.specs.Leaving.{owes_release, leaving, refusing};
+ghost use Rattle.planned.specs.Course.{leaves};
+
+use shard_calls::{CommandAnswer, CommandState, Event, Refusal};
+use shard_state::{Fields, open_command};
+
+/// Whether the command took the lock, and has not freed it.
+fn owes_release(state: &CommandState) -> bool
+    ensures { result ≡ owes_release state.now }
+{
+    state.term.is_some() && !state.released
+}
+
+/// How a command leaves with this answer: it frees the lock once, if it took it, and ends.
+pub(crate) fn leaving(command: u64, state: &CommandState, answer: CommandAnswer) -> Event
+    ensures { result ≡ leaving command state.now answer }
+{
+    if owes_release(state) {
+        Event::Release { command }
+    } else {
+        Event::End { command, answer }
+    }
+}
+
+/// How a command leaves that is refused.
+pub(crate) fn refusing(command: u64, state: &CommandState, refusal: Refusal) -> Event
+    ensures { result ≡ refusing command state.now refusal }
+{
+    leaving(command, state, CommandAnswer::Refused { refusal })
+}
+
+/// How an open command leaves that has run out of memory: it frees the lock once, if it took it, and ends. It takes no memory.
+pub fn leaves(fields: &Fields, command: u64) -> Event
+    ensures { result ≡ leaves (seen (data_of fields.now)) command }
+{
+    match open_command(&fields.commands, command) {
+        Some(state) => refusing(command, state, Refusal::OutOfMemory),
+        None => Event::End {
+            command,
+            answer: CommandAnswer::Refused {
+                refusal: Refusal::OutOfMemory,
+            },
+        },
+    }
+}

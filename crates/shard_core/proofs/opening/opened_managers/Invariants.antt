@@ -1,0 +1,5 @@
+use Rattle.shard_core.specs.Opened.{AreOpened}
+use Rattle.shard_core.proofs.opening.opened_managers.Given as goal
+
+abbrev pub invariant-loop-at : goal.invariant-loop-at
+invariant-loop-at l = AreOpened l.tablets l.at l.managers.items

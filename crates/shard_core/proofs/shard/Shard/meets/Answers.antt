@@ -1,0 +1,10 @@
+use Rattle.std.proofs.Common.{sym, ◌∙◌}
+use Rattle.shard_state.specs.State.{data_of}
+use Rattle.shard_core.proofs.RunLemmas.{addressed, met_is}
+use Rattle.shard_core.proofs.shard.Shard.meets.Goals as goal
+
+pub find-found-requires-clause-addressed : goal.find-found-requires-clause-addressed
+find-found-requires-clause-addressed c = addressed (data_of c.self.inside.fields) c.self.invariant.leads.sound
+
+pub returns : goal.returns
+returns c = c.is_met.ensures ∙ sym (met_is (data_of c.self.inside.fields) c.self.inside.history.steps.items _ c.args.event.now c.self.view_is)
