@@ -1,5 +1,5 @@
 -- Names, and lists of those that actions start.
-use Rattle.std.proofs.Common.{◌≡◌, ◌≢◌, ℕ, ◌<◌, ◌≤◌, List, [], ◌∷◌, ◌++◌, Bool, true, false, not, cond, ◌&&◌, ◌||◌, Some, None, length, refl, sym, ap, subst, ◌∙◌, arith}
+use Rattle.std.proofs.Common.{◌≡◌, ◌≢◌, ℕ, ◌≤◌, List, [], ◌∷◌, ◌++◌, Bool, true, false, not, cond, ◌&&◌, ◌||◌, Some, None, length, refl, sym, ap, subst, ◌∙◌, arith}
 use Rattle.std.specs.Prelude.{All, codes, nat_le}
 use Rattle.std.specs.List.{list_all, Contains}
 use Rattle.std.specs.Str.{bytes_eq}
@@ -10,7 +10,7 @@ use Rattle.std.proofs.lemmas.List.Elements.{All-nil, All-cons, All-head, All-tai
 use Rattle.std.proofs.lemmas.Map.Made.{is_member-Decides}
 use Rattle.std.proofs.lemmas.Slice.Eq.{bytes_eq-Decides}
 use Rattle.shard_script.specs.declared.script.Action.{Action}
-use Rattle.shard_script.specs.Names.{IsName, is_name_byte, is_taken, name_reading, has_name, started_by, started, NamesDiffer, IsKnown, AreKnown}
+use Rattle.shard_script.specs.Names.{IsName, is_name_byte, begins_with_letter, is_taken, name_reading, has_name, started_by, started, NamesDiffer, IsKnown, AreKnown}
 use Rattle.shard_script.proofs.OptionLemmas.{only_if_some, and_both, not_true}
 use Rattle.shard_script.proofs.TabletsInOrder.{or_false}
 
@@ -32,16 +32,15 @@ names_apart a b other = not_same (bytes_eq a b) (λ same. other ((bytes_eq-Decid
 pub name_of : (text name : List ℕ) → name_reading text ≡ Some name → (text ≡ name) × IsName name
 unfolding name_reading
 name_of text name h =
-    let p = only_if_some (nat_le 1 (length text) && nat_le (length text) 16 && list_all is_name_byte text && not (is_taken text)) text name h in
-    let p1 = and_both (nat_le 1 (length text) && nat_le (length text) 16 && list_all is_name_byte text) (not (is_taken text)) p.0 in
-    let p2 = and_both (nat_le 1 (length text) && nat_le (length text) 16) (list_all is_name_byte text) p1.0 in
-    let p3 = and_both (nat_le 1 (length text)) (nat_le (length text) 16) p2.0 in
-    let some : nat_le 1 (length text) ≡ true = p3.0 in
+    let p = only_if_some (begins_with_letter text && nat_le (length text) 16 && list_all is_name_byte text && not (is_taken text)) text name h in
+    let p1 = and_both (begins_with_letter text && nat_le (length text) 16 && list_all is_name_byte text) (not (is_taken text)) p.0 in
+    let p2 = and_both (begins_with_letter text && nat_le (length text) 16) (list_all is_name_byte text) p1.0 in
+    let p3 = and_both (begins_with_letter text) (nat_le (length text) 16) p2.0 in
     let few : nat_le (length text) 16 ≡ true = p3.1 in
     let free = or_false (bytes_eq text (codes "main")) (bytes_eq text (codes "control")) (not_true (is_taken text) p1.1) in (
       p.1,
       subst (λ (n : List ℕ). IsName n) p.1 (record {
-        some_byte = grind (arith, nat_tests);
+        first_letter = p3.0;
         few_bytes = grind (arith, nat_tests);
         bytes = p2.1;
         not_main = other_name text (codes "main") free.0;
@@ -52,10 +51,9 @@ name_of text name h =
 pub name_reads : (name : List ℕ) → IsName name → name_reading name ≡ Some name
 unfolding name_reading
 name_reads name h =
-    let some : nat_le 1 (length name) ≡ true = (let size : 0 < length name = h.some_byte in grind (arith, nat_tests)) in
     let few : nat_le (length name) 16 ≡ true = (let size : length name ≤ 16 = h.few_bytes in grind (arith, nat_tests)) in
     let free : is_taken name ≡ false = or_none (bytes_eq name (codes "main")) (bytes_eq name (codes "control")) (names_apart name (codes "main") h.not_main) (names_apart name (codes "control") h.not_control) in
-    all_hold (nat_le 1 (length name)) (nat_le (length name) 16) (list_all is_name_byte name) (is_taken name) some few h.bytes free
+    all_hold (begins_with_letter name) (nat_le (length name) 16) (list_all is_name_byte name) (is_taken name) h.first_letter few h.bytes free
   where
     all_hold : (a b c d : Bool) → a ≡ true → b ≡ true → c ≡ true → d ≡ false → cond (a && b && c && not d) (Some name) None ≡ Some name
     all_hold true true true false p q r s = refl

@@ -1,6 +1,6 @@
 ghost use Rattle.std.specs.Prelude.{◌≡◌, ◌==◌, map, length, IfOk};
 ghost use Rattle.std.specs.List.{list_all};
-ghost use Rattle.shard_script.specs.Names.{is_name_byte, is_taken, name_reading};
+ghost use Rattle.shard_script.specs.Names.{is_name_byte, begins_with_letter, is_taken, name_reading};
 ghost use Rattle.shard_script.specs.Aliases.{are_ends};
 ghost use Rattle.shard_script.specs.Commands.{command_of_two, command_of_four};
 ghost use Rattle.shard_script.specs.Lines.{parts_of, server_reading, kind_reading, shard_line, tablet_line, play_line, start_line, turn_line, finish_line, tick_line, local_line, crash_line, restart_line, side_reading, link_reading, cut_line, mend_line, lose_line, repeat_line, one_word, tablet_or_message, two_words, three_words, four_words, six_words, line_of_words, line_of};
@@ -25,17 +25,22 @@ pub enum Line {
     Act { action: Action },
 }
 
-#[tactic(auto, unfolding(crate::specs::Names::is_name_byte))]
 fn is_name_byte(byte: u8) -> bool
     ensures { result ≡ is_name_byte byte }
 {
-    matches!(byte, b'0'..=b'9' | b'A'..=b'Z' | b'a'..=b'z' | b'_' | b'.' | b'-')
+    byte.is_ascii_lowercase() || byte.is_ascii_digit()
 }
 
 fn all_name_bytes(text: &[u8]) -> bool
     ensures { result ≡ list_all is_name_byte text.now }
 {
     text.iter().all(|byte| is_name_byte(*byte))
+}
+
+fn begins_with_letter(text: &[u8]) -> bool
+    ensures { result ≡ begins_with_letter text.now }
+{
+    text.first().is_some_and(|byte| byte.is_ascii_lowercase())
 }
 
 /// Whether a name is one of the two that no line starts.
@@ -45,12 +50,12 @@ fn is_taken(name: &[u8]) -> bool
     name == b"main".as_slice() || name == b"control".as_slice()
 }
 
-/// A name that may be started: 1 to 16 bytes as those of a cell.
+/// A name that may be started: it begins with a lower-case letter, and goes on with lower-case letters and digits.
 #[tactic(auto, unfolding(crate::specs::Names::name_reading))]
 fn read_name(text: &[u8]) -> Option<Name>
     ensures { result ≡ name_reading text.now }
 {
-    if text.is_empty() || !all_name_bytes(text) || is_taken(text) {
+    if !begins_with_letter(text) || !all_name_bytes(text) || is_taken(text) {
         return None;
     }
     Text::from_slice(text)

@@ -49,6 +49,8 @@ fn reads_what_is_done_to_tablets_and_messages(rt: HostRuntime) -> Result<(), Fai
         b"cut zone1-100 zone1-101\nmend zone1-101 zone1-100".as_slice(),
         b"cut control zone1-100\nmend zone1-100 control\ncut zone1-100 zone1-100".as_slice(),
         b"lose 0\nrepeat 27".as_slice(),
+        b"start p1 write 1\nfinish p1".as_slice(),
+        b"start abcdefghijklmn09 write 1".as_slice(),
     ];
     for line in lines {
         assert_eq!(rt; fault_of(rt.alloc(), line)?, None);
@@ -66,6 +68,12 @@ fn finds_the_line_with_a_fault(rt: HostRuntime) -> Result<(), Fail> {
         (b"write 0 to zone1-100".as_slice(), 4),
         (b"start w write 2 to zone1-100".as_slice(), 4),
         (b"start w settle".as_slice(), 4),
+        (b"start P-1 write 1".as_slice(), 4),
+        (b"start P1 write 1".as_slice(), 4),
+        (b"start 1p write 1".as_slice(), 4),
+        (b"start p-1 write 1".as_slice(), 4),
+        (b"start abcdefghijklmn019 write 1".as_slice(), 4),
+        (b"start control write 1".as_slice(), 4),
         (b"cut control zone1-100\ncut control control".as_slice(), 5),
         (b"mend zone1-100 zone1-102".as_slice(), 4),
         (b"crash zone1-100 0".as_slice(), 4),
