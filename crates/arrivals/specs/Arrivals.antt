@@ -1,4 +1,5 @@
--- What comes next of itself: the message that may be delivered for the first time, and the tablet that may be sent an entry.
+-- What comes next of itself: the message that may be delivered for the first time, and the tablet that may be sent an entry by its source (MySQL
+-- 8.0 manual, Replication).
 use Rattle.std.specs.Prelude.{ℕ, Bool, ◌&&◌, is_none, is_some, Option, map}
 use Rattle.std.specs.List.{find, position_from}
 use Rattle.shard_names.specs.declared.alias.Alias.{Alias}

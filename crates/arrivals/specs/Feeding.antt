@@ -1,4 +1,4 @@
--- What a replica needs of its source's log.
+-- What a replica needs of its source's log (MySQL 8.0 manual, GTID Auto-Positioning).
 use Rattle.std.specs.Prelude.{ℕ, ◌-◌, List, drop, Option, Some}
 use Rattle.shard_base.specs.Options.{◌>>=◌}
 use Rattle.shard_names.specs.declared.alias.Alias.{Alias}

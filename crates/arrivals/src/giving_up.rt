@@ -3,7 +3,7 @@ ghost use Rattle.std.specs.List.{list_all};
 ghost use Rattle.shard_calls.specs.World.{numbered};
 ghost use Rattle.shard_calls.specs.Messages.{passes, may_arrive, answers_to, is_unanswered, is_call_lost, may_time_out, timeout_of, is_overdue, why_unanswered, why_by, why_given_up};
 ghost use Rattle.shard_calls.specs.declared.why.Why.TheVariants as whys;
-ghost use Rattle.shard_state.specs.State.{seen, data_of};
+ghost use Rattle.shard_state.specs.State.{seen, data_of, AreOfGroup};
 ghost use Rattle.arrivals.specs.GivingUp.{why_in};
 
 use crate::links::{is_cut, link_to};
@@ -17,6 +17,7 @@ const TIMEOUT: u64 = 15000;
 
 /// Whether the message of this number has not come, and may not.
 fn is_out_at(fields: &Fields, number: u64) -> bool
+    requires group { AreOfGroup (data_of fields.now) }
     ensures { result ≡ passes (λ m. is_none m.arrived && not (may_arrive (seen (data_of fields.now)) m)) (numbered fields.now.post.messages number) }
 {
     match fields.post.message(number) {
@@ -26,6 +27,7 @@ fn is_out_at(fields: &Fields, number: u64) -> bool
 }
 
 fn all_out(fields: &Fields, numbers: &[u64]) -> bool
+    requires group { AreOfGroup (data_of fields.now) }
     ensures { result ≡ list_all (λ k. passes (λ m. is_none m.arrived && not (may_arrive (seen (data_of fields.now)) m)) (numbered fields.now.post.messages k)) numbers.now }
 {
     numbers.iter().all(|number| is_out_at(fields, *number))
@@ -33,6 +35,7 @@ fn all_out(fields: &Fields, numbers: &[u64]) -> bool
 
 /// Whether no answer to the call was delivered, and none may be. It costs a few steps for each answer.
 fn is_unanswered(fields: &Fields, call: u64) -> bool
+    requires group { AreOfGroup (data_of fields.now) }
     ensures { result ≡ is_unanswered (seen (data_of fields.now)) call }
 {
     all_out(fields, fields.post.answers_to(call))
@@ -138,6 +141,7 @@ fn why_unanswered(
 
 /// Whether the call is the command's, and no answer to it has come or may.
 fn is_waited_for(fields: &Fields, command: u64, number: u64, by: u64) -> bool
+    requires group { AreOfGroup (data_of fields.now) }
     ensures { result ≡ ((by == command) && is_unanswered (seen (data_of fields.now)) number) }
 {
     by == command && is_unanswered(fields, number)
@@ -150,6 +154,7 @@ fn why_by(
     state: &CommandState,
     message: &Message,
 ) -> Option<Why>
+    requires group { AreOfGroup (data_of fields.now) }
     ensures { result ≡ why_by (seen (data_of fields.now)) command number state.now message.now message.now.content }
 {
     match &message.content {
@@ -171,6 +176,7 @@ fn why_by(
 }
 
 fn why_for(fields: &Fields, command: u64, number: u64, state: &CommandState) -> Option<Why>
+    requires group { AreOfGroup (data_of fields.now) }
     ensures { result ≡ why_in (seen (data_of fields.now)) command number state.now (numbered fields.now.post.messages number) }
 {
     match fields.post.message(number) {
@@ -183,6 +189,7 @@ fn why_for(fields: &Fields, command: u64, number: u64, state: &CommandState) -> 
 ///
 /// It costs a few steps for each answer to the call.
 pub fn why_given_up(fields: &Fields, command: u64, call: u64) -> Option<Why>
+    requires group { AreOfGroup (data_of fields.now) }
     ensures { result ≡ why_given_up (seen (data_of fields.now)) command call }
 {
     match open_command(&fields.commands, command) {

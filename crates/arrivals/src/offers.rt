@@ -4,7 +4,7 @@ ghost use Rattle.shard_calls.specs.declared.stand.Stand.TheVariants as stands;
 ghost use Rattle.shard_calls.specs.Messages.{passes, waits_at, is_under_way, may_feed, offered_by, offer_to};
 ghost use Rattle.shard_calls.specs.World.{numbered};
 ghost use Rattle.post.specs.Directions.{IsPlace};
-ghost use Rattle.shard_state.specs.State.{seen, data_of, config_in, state_at};
+ghost use Rattle.shard_state.specs.State.{seen, data_of, config_in, state_at, AreOfGroup};
 ghost use Rattle.tablet_manager.specs.Managed.{state_of};
 ghost use Rattle.arrivals.specs.Addressed.{KnowsTablets, AreAddressed};
 ghost use Rattle.arrivals.specs.Arrivals.{next_offered};
@@ -32,6 +32,7 @@ fn waits_at(content: &Content, replica: &Alias, next: u64) -> bool
 
 /// Whether the message of this number is due and brings the replica what comes behind an entry.
 fn is_feed_of(fields: &Fields, number: u64, replica: &Alias, next: u64) -> bool
+    requires group { AreOfGroup (data_of fields.now) }
     ensures { result ≡ passes (is_feed_due (data_of fields.now) replica.now next) (numbered fields.now.post.messages number) }
 {
     match fields.post.message(number) {
@@ -42,6 +43,7 @@ fn is_feed_of(fields: &Fields, number: u64, replica: &Alias, next: u64) -> bool
 
 /// Whether the message at an index of the queue is due and brings the replica what comes behind an entry.
 fn is_feed_at(fields: &Fields, queue: &Queue, at: usize, replica: &Alias, next: u64) -> bool
+    requires group { AreOfGroup (data_of fields.now) }
     ensures { result ≡ passes (λ k. passes (is_feed_due (data_of fields.now) replica.now next) (numbered fields.now.post.messages k)) (slice_get queue.now at) }
 {
     match queue.get(at) {
@@ -51,6 +53,7 @@ fn is_feed_at(fields: &Fields, queue: &Queue, at: usize, replica: &Alias, next: 
 }
 
 fn is_feed_in(fields: &Fields, queue: &Queue, replica: &Alias, next: u64) -> bool
+    requires group { AreOfGroup (data_of fields.now) }
     ensures { result ≡ list_any (λ k. passes (is_feed_due (data_of fields.now) replica.now next) (numbered fields.now.post.messages k)) queue.now }
 {
     for at in 0..queue.len() {
@@ -62,6 +65,7 @@ fn is_feed_in(fields: &Fields, queue: &Queue, replica: &Alias, next: u64) -> boo
 }
 
 fn is_feed_on(fields: &Fields, from: usize, to: usize, replica: &Alias, next: u64) -> bool
+    requires group { AreOfGroup (data_of fields.now) }
     requires from { IsPlace fields.now.post.aliases from }
     requires to { IsPlace fields.now.post.aliases to }
     ensures { result ≡ list_any (is_feed_on (data_of fields.now) from to replica.now next) fields.now.post.messages }
@@ -70,6 +74,7 @@ fn is_feed_on(fields: &Fields, from: usize, to: usize, replica: &Alias, next: u6
 }
 
 fn is_feed_to(fields: &Fields, to: usize, replica: &Alias, next: u64) -> bool
+    requires group { AreOfGroup (data_of fields.now) }
     requires to { IsPlace fields.now.post.aliases to }
     ensures { result ≡ list_any (is_feed_to (data_of fields.now) to replica.now next) fields.now.post.messages }
 {
@@ -83,6 +88,7 @@ fn is_feed_to(fields: &Fields, to: usize, replica: &Alias, next: u64) -> bool
 
 /// Whether an entry for the replica, behind what it has, is on its way. It costs a few steps for each message that waits on its way there.
 fn is_under_way(fields: &Fields, replica: &Alias, next: u64) -> bool
+    requires group { AreOfGroup (data_of fields.now) }
     requires known { KnowsTablets (data_of fields.now) }
     requires addressed { AreAddressed (data_of fields.now) }
     ensures { result ≡ is_under_way (seen (data_of fields.now)) replica.now next }
@@ -103,6 +109,7 @@ fn may_feed(
     term: u64,
     next: u64,
 ) -> bool
+    requires group { AreOfGroup (data_of fields.now) }
     requires known { KnowsTablets (data_of fields.now) }
     requires addressed { AreAddressed (data_of fields.now) }
     requires source { state_of manager.now ≡ state_at fields.now.managers.items source.now }
@@ -122,6 +129,7 @@ fn offered(
     term: u64,
     next: u64,
 ) -> Option<Content>
+    requires group { AreOfGroup (data_of fields.now) }
     requires known { KnowsTablets (data_of fields.now) }
     requires addressed { AreAddressed (data_of fields.now) }
     requires replica { state_of replica.now ≡ state_at fields.now.managers.items to.now }
@@ -139,6 +147,7 @@ fn offered(
 }
 
 fn offer_by_stand(fields: &Fields, manager: &Manager, replica: &Alias) -> Option<Content>
+    requires group { AreOfGroup (data_of fields.now) }
     requires known { KnowsTablets (data_of fields.now) }
     requires addressed { AreAddressed (data_of fields.now) }
     requires replica { state_of manager.now ≡ state_at fields.now.managers.items replica.now }
@@ -161,6 +170,7 @@ fn offer_by_stand(fields: &Fields, manager: &Manager, replica: &Alias) -> Option
 /// It costs a few steps for each tablet, for each message that waits on its way to the replica, and for each entry of the source's log
 /// from the one on that the replica waits for up to the one that it needs.
 pub fn offer_to(fields: &Fields, replica: &Alias) -> Option<Content>
+    requires group { AreOfGroup (data_of fields.now) }
     requires known { KnowsTablets (data_of fields.now) }
     requires addressed { AreAddressed (data_of fields.now) }
     ensures { result ≡ offer_to (seen (data_of fields.now)) replica.now }
@@ -172,6 +182,7 @@ pub fn offer_to(fields: &Fields, replica: &Alias) -> Option<Content>
 }
 
 fn is_offered(fields: &Fields, replica: &Alias) -> bool
+    requires group { AreOfGroup (data_of fields.now) }
     requires known { KnowsTablets (data_of fields.now) }
     requires addressed { AreAddressed (data_of fields.now) }
     ensures { result ≡ is_some (offer_to (seen (data_of fields.now)) replica.now) }
@@ -181,6 +192,7 @@ fn is_offered(fields: &Fields, replica: &Alias) -> bool
 
 /// The first tablet, in alias order, that may be offered an entry. It costs what `offer_to` costs, for each tablet before it.
 pub fn offerable(fields: &Fields) -> Option<Alias>
+    requires group { AreOfGroup (data_of fields.now) }
     requires known { KnowsTablets (data_of fields.now) }
     requires addressed { AreAddressed (data_of fields.now) }
     ensures { result ≡ next_offered (config_in (data_of fields.now)) (seen (data_of fields.now)) }

@@ -1,7 +1,9 @@
-ghost use Rattle.std.specs.Prelude.{◌≡◌, ◌&&◌, ◌||◌, not, nat_lt, nat_le};
-ghost use Rattle.shard_calls.specs.Messages.{is_row_told, is_ready, is_received, may_arrive, is_deliverable};
+ghost use Rattle.std.specs.Prelude.{◌≡◌, ◌&&◌, ◌||◌, not, nat_lt, nat_le, Some};
+ghost use Rattle.shard_calls.specs.Messages.{is_ready, is_received, may_arrive, is_deliverable};
 ghost use Rattle.shard_calls.specs.Stands.{is_down, is_primary_of};
-ghost use Rattle.shard_state.specs.State.{seen, data_of, state_at};
+ghost use Rattle.shard_calls.specs.Tablets.{is_row_told};
+ghost use Rattle.shard_state.specs.State.{seen, data_of, state_at, AreOfGroup};
+ghost use Rattle.shard_state.specs.Managers.{manager_of};
 ghost use Rattle.tablet_manager.specs.Managed.{state_of};
 
 use crate::links::{is_cut, link_of};
@@ -10,26 +12,21 @@ use shard_names::Alias;
 use shard_state::{Fields, is_down, manager_of, open_command};
 use tablet_manager::Manager;
 
-/// Whether the row of the term is in the tablet's log and counts as committed.
-fn is_row_told(manager: &Manager, term: u64) -> bool
-    ensures { result ≡ is_row_told (state_of manager.now) term }
-{
-    manager.log().has_row(term) && manager.stand().is_primary()
-}
-
 /// Whether the tablet can say how it went with the row of the term, or the moment has come.
 fn has_outcome(manager: &Manager, term: u64, until: u64, now: u64) -> bool
-    ensures { result ≡ (nat_lt term manager.now.log.seen || not (is_primary_of manager.now.stand term) || is_row_told (state_of manager.now) term || nat_le until now) }
+    ensures { result ≡ (nat_lt term manager.now.log.seen || not (is_primary_of manager.now.stand term) || is_row_told manager.now.group manager.now.me (state_of manager.now) term || nat_le until now) }
 {
     term < manager.log().seen()
         || !manager.stand().is_primary_of(term)
-        || is_row_told(manager, term)
+        || manager.is_row_told(term)
         || until <= now
 }
 
-/// Whether the tablet answers a call of this term yet.
-fn is_ready(fields: &Fields, manager: &Manager, term: u64, call: &Call) -> bool
-    ensures { result ≡ is_ready (seen (data_of fields.now)) (state_of manager.now) term call.now }
+/// Whether the tablet, which has this manager, answers a call of this term yet.
+fn is_ready(fields: &Fields, to: &Alias, manager: &Manager, term: u64, call: &Call) -> bool
+    requires there { manager_of fields.now.managers.items to.now ≡ Some manager.now }
+    requires group { AreOfGroup (data_of fields.now) }
+    ensures { result ≡ is_ready (seen (data_of fields.now)) to.now term call.now }
 {
     match call {
         Call::Status => true,
@@ -43,16 +40,18 @@ fn is_ready(fields: &Fields, manager: &Manager, term: u64, call: &Call) -> bool
 
 /// Whether the tablet takes the call. One that is none of the shard's would.
 fn takes_call(fields: &Fields, to: &Alias, term: u64, call: &Call) -> bool
-    ensures { result ≡ (not (is_down (state_at fields.now.managers.items to.now).stand) && is_ready (seen (data_of fields.now)) (state_at fields.now.managers.items to.now) term call.now) }
+    requires group { AreOfGroup (data_of fields.now) }
+    ensures { result ≡ (not (is_down (state_at fields.now.managers.items to.now).stand) && is_ready (seen (data_of fields.now)) to.now term call.now) }
 {
     match manager_of(&fields.managers, to) {
-        Some(manager) => !manager.stand().is_down() && is_ready(fields, manager, term, call),
+        Some(manager) => { !manager.stand().is_down() && is_ready(fields, to, manager, term, call) }
         None => true,
     }
 }
 
 /// Whether the receiver takes it: a tablet that is not down, or a command that has not ended.
 fn is_received(fields: &Fields, content: &Content) -> bool
+    requires group { AreOfGroup (data_of fields.now) }
     ensures { result ≡ is_received (seen (data_of fields.now)) content.now }
 {
     match content {
@@ -65,6 +64,7 @@ fn is_received(fields: &Fields, content: &Content) -> bool
 
 /// Whether the message would come to its receiver now: it is not lost, its link is not cut, and the receiver takes it.
 pub fn may_arrive(fields: &Fields, message: &Message) -> bool
+    requires group { AreOfGroup (data_of fields.now) }
     ensures { result ≡ may_arrive (seen (data_of fields.now)) message.now }
 {
     !message.lost
@@ -74,6 +74,7 @@ pub fn may_arrive(fields: &Fields, message: &Message) -> bool
 
 /// Whether the message of this number may be delivered, for the first time or again.
 pub fn is_deliverable(fields: &Fields, number: u64) -> bool
+    requires group { AreOfGroup (data_of fields.now) }
     ensures { result ≡ is_deliverable (seen (data_of fields.now)) number }
 {
     match fields.post.message(number) {

@@ -6,7 +6,6 @@ use Rattle.std.specs.List.{cons_option}
 use Rattle.std.specs.List.{list_any}
 use Rattle.shard_names.specs.declared.alias.Alias.{Alias}
 use Rattle.shard_names.specs.Tablets.{alias_eq}
-use Rattle.gtid_sets.specs.Position.{Position}
 use Rattle.shard_calls.specs.declared.call.Call.{Call}
 use Rattle.shard_calls.specs.declared.post.Content.{Content}
 use Rattle.shard_calls.specs.declared.post.Content.TheVariants as contents
@@ -16,8 +15,8 @@ use Rattle.shard_calls.specs.declared.state.Act.TheVariants as acts
 use Rattle.shard_calls.specs.World.{numbered}
 use Rattle.shard_calls.specs.Messages.{passes}
 use Rattle.shard_calls.specs.Outcomes.{Outcome, Sending, outcome_of, sending_by, sending_of, sendings}
-use Rattle.shard_calls.specs.Causes.{is_promote, is_short_of, is_some_of, came_to, came_to_in}
-use Rattle.causes.specs.Calls.{sent_such, asks_to, is_asked_in, comes_to, is_such, is_such_in, is_short_call}
+use Rattle.shard_calls.specs.Causes.{is_some_of, came_to, came_to_in}
+use Rattle.causes.specs.Calls.{sent_such, asks_to, is_asked_in, comes_to, is_such, is_such_in}
 use Rattle.causes.specs.declared.calls.Wanted.{Wanted}
 use Rattle.causes.specs.declared.calls.Wanted.TheVariants as wanteds
 
@@ -25,6 +24,7 @@ use Rattle.causes.specs.declared.calls.Wanted.TheVariants as wanteds
 pub comes_to_nothing : (wanted : Wanted) → comes_to wanted None ≡ false
 comes_to_nothing wanteds.Promoted = refl
 comes_to_nothing wanteds.Told = refl
+comes_to_nothing wanteds.NotTold = refl
 comes_to_nothing (wanteds.GivenUp why) = refl
 comes_to_nothing (wanteds.Stale seen) = refl
 comes_to_nothing (wanteds.Kept stand) = refl
@@ -87,15 +87,16 @@ pub such_in_by_acts : (post : List Message) (t : ℕ) (kind : Call → Bool) (a 
     → list_any (sent_such post (is_such_in post t kind a test)) done ≡ came_to_in t kind a test (sendings post done)
 such_in_by_acts post t kind a test done = by_acts post _ _ (λ m. such_in_by_content post t kind a test m m.content) done
 
-short_by_content : (post : List Message) (a : Alias) (missing : Position) (since now : ℕ) (m : Message) (c : Content)
-    → (asks_to is_promote a c && is_short_of missing (outcome_of post m) && (m.sent == since) && is_some_of m.arrived now)
-    ≡ passes (λ s. is_promote s.call && alias_eq s.to a && is_short_of missing s.outcome && (s.sent == since) && is_some_of s.arrived now) (sending_by post m c)
-short_by_content post a missing since now m (contents.Asks command term to call) = refl
-short_by_content post a missing since now m (contents.Answers command asked from says) = refl
-short_by_content post a missing since now m (contents.Feeds from to term after index e) = refl
-short_by_content post a missing since now m (contents.Acks from to term index) = refl
+timed_by_content : (post : List Message) (kind : Call → Bool) (a : Alias) (test : Option Outcome → Bool) (since now : ℕ) (m : Message) (c : Content)
+    → (asks_to kind a c && test (outcome_of post m) && (m.sent == since) && is_some_of m.arrived now)
+    ≡ passes (λ s. kind s.call && alias_eq s.to a && test s.outcome && (s.sent == since) && is_some_of s.arrived now) (sending_by post m c)
+timed_by_content post kind a test since now m (contents.Asks command term to call) = refl
+timed_by_content post kind a test since now m (contents.Answers command asked from says) = refl
+timed_by_content post kind a test since now m (contents.Feeds from to term after index e) = refl
+timed_by_content post kind a test since now m (contents.Acks from to term index) = refl
 
-pub short_by_acts : (post : List Message) (a : Alias) (missing : Position) (since now : ℕ) (done : List Act)
-    → list_any (sent_such post (is_short_call post a missing since now)) done
-    ≡ list_any (λ s. is_promote s.call && alias_eq s.to a && is_short_of missing s.outcome && (s.sent == since) && is_some_of s.arrived now) (sendings post done)
-short_by_acts post a missing since now done = by_acts post _ _ (λ m. short_by_content post a missing since now m m.content) done
+-- and was sent and came at these moments
+pub timed_by_acts : (post : List Message) (kind : Call → Bool) (a : Alias) (test : Option Outcome → Bool) (since now : ℕ) (done : List Act)
+    → list_any (sent_such post (λ m. asks_to kind a m.content && test (outcome_of post m) && (m.sent == since) && is_some_of m.arrived now)) done
+    ≡ list_any (λ s. kind s.call && alias_eq s.to a && test s.outcome && (s.sent == since) && is_some_of s.arrived now) (sendings post done)
+timed_by_acts post kind a test since now done = by_acts post _ _ (λ m. timed_by_content post kind a test since now m m.content) done

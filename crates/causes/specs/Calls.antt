@@ -1,4 +1,5 @@
--- The calls of a command, act by act: which message an act sent, what kind of call that is, and what it came to.
+-- The calls of a command, act by act: which message an act sent, what kind of call that is, and what it came to. Calls are those of the Vitess
+-- manual.
 use Rattle.std.specs.Prelude.{ℕ, Bool, false, ◌&&◌, ◌==◌, List, Option, Some, None}
 use Rattle.shard_base.specs.Options.{◌>>=◌}
 use Rattle.shard_names.specs.Tablets.{alias_eq}
@@ -13,7 +14,7 @@ use Rattle.shard_calls.specs.declared.state.Act.TheVariants as acts
 use Rattle.shard_calls.specs.World.{numbered}
 use Rattle.shard_calls.specs.Messages.{passes}
 use Rattle.shard_calls.specs.Outcomes.{Outcome, Answered, answer_in, outcome_of}
-use Rattle.shard_calls.specs.Causes.{is_promote, is_wait_told, is_needed, is_promoted, is_told_so, is_given_up, is_stale, is_kept, is_short_of, is_some_of}
+use Rattle.shard_calls.specs.Causes.{is_promote, is_wait_told, is_needed, is_promoted, is_told_so, is_not_told, is_given_up, is_stale, is_kept, is_short_of, is_some_of}
 use Rattle.causes.specs.declared.calls.Kind.{Kind}
 use Rattle.causes.specs.declared.calls.Kind.TheVariants as kinds
 use Rattle.causes.specs.declared.calls.Wanted.{Wanted}
@@ -61,6 +62,7 @@ is_asked_in t (contents.Acks from to term index) = false
 abbrev pub comes_to : Wanted → Option Outcome → Bool
 comes_to wanteds.Promoted o = is_promoted o
 comes_to wanteds.Told o = is_told_so o
+comes_to wanteds.NotTold o = is_not_told o
 comes_to (wanteds.GivenUp why) o = is_given_up why o
 comes_to (wanteds.Stale seen) o = is_stale seen o
 comes_to (wanteds.Kept stand) o = is_kept stand o
@@ -76,3 +78,7 @@ is_such_in post t kind a test m = asks_to kind a m.content && is_asked_in t m.co
 -- whether the message asked the tablet to become the primary, and was answered that its log lacks these transactions
 abbrev pub is_short_call : List Message → Alias → Position → ℕ → ℕ → Message → Bool
 is_short_call post a missing since now m = asks_to is_promote a m.content && is_short_of missing (outcome_of post m) && (m.sent == since) && is_some_of m.arrived now
+
+-- whether the message asked whether the row of the term counts as committed, and was answered that it does not
+abbrev pub is_not_told_call : List Message → Alias → ℕ → ℕ → Message → Bool
+is_not_told_call post a since now m = asks_to is_wait_told a m.content && is_not_told (outcome_of post m) && (m.sent == since) && is_some_of m.arrived now

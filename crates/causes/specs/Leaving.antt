@@ -1,4 +1,4 @@
--- Who did not join a new primary, act by act.
+-- Who did not join a new primary (Vitess manual, PlannedReparentShard), act by act.
 use Rattle.std.specs.Prelude.{Bool, false, ◌&&◌, List, Option, Some, None, filter_map}
 use Rattle.shard_base.specs.Options.{◌>>=◌}
 use Rattle.shard_names.specs.Tablets.{alias_eq}

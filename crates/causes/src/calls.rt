@@ -4,8 +4,8 @@ ghost use Rattle.std.specs.Prelude.{◌≡◌};
 ghost use Rattle.std.specs.List.{list_any};
 ghost use Rattle.std.specs.Option.{option_copied};
 ghost use Rattle.shard_calls.specs.Outcomes.{Answered, GivenUp, outcome_by, outcome_of, sendings};
-ghost use Rattle.shard_calls.specs.Causes.{is_promote, is_wait_told, is_promoted, is_told_so, is_stale, is_kept, is_short_of, is_some_of, came_to, came_to_in};
-ghost use Rattle.causes.specs.Calls.{message_of, brought_by, sent_such, is_kind, asks_to, is_asked_in, comes_to, is_such, is_such_in, is_short_call};
+ghost use Rattle.shard_calls.specs.Causes.{is_promote, is_wait_told, is_promoted, is_told_so, is_not_told, is_stale, is_kept, is_short_of, is_some_of, came_to, came_to_in};
+ghost use Rattle.causes.specs.Calls.{message_of, brought_by, sent_such, is_kind, asks_to, is_asked_in, comes_to, is_such, is_such_in, is_short_call, is_not_told_call};
 
 use crate::equality::{position_eq, standing_eq, why_eq};
 use gtid_sets::GtidSet;
@@ -29,6 +29,8 @@ pub(crate) enum Wanted {
     Promoted,
     /// The row of the term counts as committed.
     Told,
+    /// The row of the term does not count as committed.
+    NotTold,
     /// It was given up for this.
     GivenUp { why: Why },
     /// The tablet had seen this later term.
@@ -91,6 +93,12 @@ fn is_told_so(answer: &Answer) -> bool
     matches!(answer, Answer::Told)
 }
 
+fn is_not_told(answer: &Answer) -> bool
+    ensures { result ≡ is_not_told (Some (Answered answer.now)) }
+{
+    matches!(answer, Answer::NotTold)
+}
+
 fn is_stale(seen: u64, answer: &Answer) -> bool
     ensures { result ≡ is_stale seen (Some (Answered answer.now)) }
 {
@@ -116,6 +124,7 @@ fn says(wanted: &Wanted, answer: &Answer) -> bool
     match wanted {
         Wanted::Promoted => is_promoted(answer),
         Wanted::Told => is_told_so(answer),
+        Wanted::NotTold => is_not_told(answer),
         Wanted::GivenUp { .. } => false,
         Wanted::Stale { seen } => is_stale(*seen, answer),
         Wanted::Kept { stand } => is_kept(stand, answer),
@@ -367,4 +376,32 @@ pub(crate) fn was_short(
 {
     acts.iter()
         .any(|act| sent_short(post, alias, missing, since, now, act))
+}
+
+// ---- a promotion that did not count as committed in time
+
+fn is_not_told_call(post: &Post, alias: &Alias, since: u64, now: u64, message: &Message) -> bool
+    ensures { result ≡ is_not_told_call post.now.messages alias.now since now message.now }
+{
+    is_such(post, Kind::WaitTold, alias, &Wanted::NotTold, message)
+        && message.sent == since
+        && is_some_of(&message.arrived, now)
+}
+
+fn sent_not_told(post: &Post, alias: &Alias, since: u64, now: u64, act: &Act) -> bool
+    ensures { result ≡ sent_such post.now.messages (is_not_told_call post.now.messages alias.now since now) act.now }
+{
+    match message_of(post, act) {
+        Some(message) => is_not_told_call(post, alias, since, now, message),
+        None => false,
+    }
+}
+
+/// Whether one of these acts asked the tablet at the moment `since` whether the row of the term counts as committed, which came to it at
+/// `now`, and was answered that it does not.
+pub(crate) fn was_not_told(post: &Post, alias: &Alias, since: u64, now: u64, acts: &[Act]) -> bool
+    ensures { result ≡ list_any (sent_such post.now.messages (is_not_told_call post.now.messages alias.now since now)) acts.now }
+{
+    acts.iter()
+        .any(|act| sent_not_told(post, alias, since, now, act))
 }

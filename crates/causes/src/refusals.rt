@@ -8,7 +8,7 @@ ghost use Rattle.shard_calls.specs.Outcomes.{sendings};
 ghost use Rattle.shard_calls.specs.Causes.{has_refusal_cause, is_want_of_memory};
 ghost use Rattle.shard_state.specs.State.{data_of, config_in};
 
-use crate::calls::{Kind, Wanted, came_to, was_short};
+use crate::calls::{Kind, Wanted, came_to, was_not_told, was_short};
 use crate::says::{has_read_intent, was_lost, was_taken};
 use shard_calls::{Act, Bar, Refusal, Unacked};
 use shard_names::Alias;
@@ -21,13 +21,13 @@ fn is_unknown(fields: &Fields, new_primary: &Alias, alias: &Alias) -> bool
     *new_primary == *alias && !is_declared(&fields.managers, new_primary)
 }
 
-/// Whether the alias is that of the new primary, which is declared and may not be promoted.
+/// Whether the alias is that of the new primary, which is declared, and which the policy does not let be promoted.
 fn is_barred(fields: &Fields, new_primary: &Alias, alias: &Alias) -> bool
     ensures { result ≡ (alias_eq new_primary.now alias.now && is_declared (config_in (data_of fields.now)).tablets new_primary.now && not (is_eligible_alias (config_in (data_of fields.now)) new_primary.now)) }
 {
     *new_primary == *alias
         && is_declared(&fields.managers, new_primary)
-        && !is_eligible_alias(&fields.managers, new_primary)
+        && !is_eligible_alias(fields, new_primary)
 }
 
 /// Whether a reparent to this tablet, which did this, may be refused so.
@@ -62,6 +62,7 @@ pub(crate) fn has_refusal_cause(
             came_to(post, Kind::Needed, alias, &wanted, acts)
         }
         Refusal::NotAcknowledged { alias, cause } => match cause {
+            Unacked::NotTold { since, now } => was_not_told(post, alias, *since, *now, acts),
             Unacked::Kept { stand } => {
                 let wanted = Wanted::Kept { stand: *stand };
                 came_to(post, Kind::Needed, alias, &wanted, acts)

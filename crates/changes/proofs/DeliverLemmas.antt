@@ -1,12 +1,12 @@
 -- What a delivery makes of the world, by what the message carries.
-use Rattle.std.proofs.Common.{◌≡◌, ℕ, zero, suc, ◌+◌, ◌-◌, ◌<◌, ◌&&◌, ◌||◌, List, [], ◌∷◌, ◌++◌, Bool, true, false, not, cond, map, Option, Some, None, is_some, length, get_or, take, refl, ap, sym, subst, ◌∙◌, arith, length-append}
+use Rattle.std.proofs.Common.{◌≡◌, ℕ, zero, suc, ◌+◌, ◌-◌, ◌<◌, ◌||◌, List, [], ◌∷◌, ◌++◌, Bool, true, false, cond, map, Option, Some, None, is_some, length, get_or, take, refl, ap, sym, subst, ◌∙◌, arith, length-append}
 use Rattle.std.proofs.lemmas.Bool.{false≢true}
 use Rattle.std.proofs.Math.Seq.{take-append_seam}
 use Rattle.std.specs.List.{slice_get, AllByRecursion}
 use Rattle.shard_names.specs.declared.alias.Alias.{Alias}
 use Rattle.shard_names.specs.declared.tablet.Tablet.{Tablet}
 use Rattle.shard_names.specs.Tablets.{alias_eq, tablet_of, is_declared, is_among}
-use Rattle.shard_names.proofs.TabletLemmas.{alias_eq_is, alias_eq_itself, both_left, both_right}
+use Rattle.shard_names.proofs.TabletLemmas.{alias_eq_is, alias_eq_itself}
 use Rattle.gtid_sets.specs.declared.entry.Entry.{Entry}
 use Rattle.shard_calls.specs.declared.answer.Answer.{Answer}
 use Rattle.shard_calls.specs.declared.call.Call.{Call}
@@ -16,18 +16,17 @@ use Rattle.shard_calls.specs.declared.outcome.Accepted.TheVariants as accepteds
 use Rattle.shard_calls.specs.declared.post.Content.{Content}
 use Rattle.shard_calls.specs.declared.post.Content.TheVariants as contents
 use Rattle.shard_calls.specs.declared.post.Message.{Message}
-use Rattle.shard_calls.specs.declared.post.Settled.TheVariants as settleds
-use Rattle.shard_calls.specs.Stands.{is_down, takes_from}
-use Rattle.shard_calls.specs.Tablets.{TabletState, Verdict, after_call, answer_to, accepts, after_ack}
-use Rattle.shard_calls.specs.World.{Config, World, numbered, changed, changed_at, at_tablet, on_message, arrives, settles}
-use Rattle.shard_calls.specs.Messages.{may_arrive, is_received, is_ready, is_cut, link_of, passes}
+use Rattle.shard_calls.specs.Groups.{Group}
+use Rattle.shard_calls.specs.Stands.{takes_from}
+use Rattle.shard_calls.specs.Tablets.{TabletState, Verdict, after_call, answer_to, accepts}
+use Rattle.shard_calls.specs.World.{Config, World, numbered, changed, changed_at, at_tablet, on_message, arrives}
 use Rattle.shard_calls.specs.Deliveries.{if_declared, asked, fed, fed_reply, after_arrival, after_delivery, arrival_reply, delivery_reply}
 use Rattle.post.specs.Posted.{Posted, sent_at, with_sent, without_sent, answers_now}
 use Rattle.tablet_manager.specs.Managed.{Managed, ackers_of}
-use Rattle.shard_state.specs.State.{tablets_of}
-use Rattle.changes.specs.Sound.{IsSoundContent, AreSound, ackers_in}
-use Rattle.changes.specs.Places.{IsAt}
-use Rattle.changes.specs.Makes.{Carries, CarriesAnswer, asks_what}
+use Rattle.shard_state.specs.State.{groups_in}
+use Rattle.changes.specs.Sound.{IsSoundContent, AreSound}
+use Rattle.changes.specs.Places.{IsAt, AreOf, KnowAlias}
+use Rattle.changes.specs.Makes.{Carries}
 
 -- ---- lists of messages
 
@@ -64,15 +63,13 @@ alias_here [] a k d at = absurd at
 alias_here (m ∷ ms) a zero d at = at
 alias_here (m ∷ ms) a (suc k) d at = alias_here ms a k d at.1
 
-ackers_at : (P : List Alias → Type 0) (ms : List Managed) (k : ℕ) (d : Managed) → k < length ms → AllByRecursion P (ackers_in ms) → P (ackers_of (get_or ms k d))
-ackers_at P [] k d short all = absurd (omega arith)
-ackers_at P (m ∷ ms) zero d short all = all.0
-ackers_at P (m ∷ ms) (suc k) d short all = ackers_at P ms k d (omega arith) all.1
+group_at : (P : Group → Type 0) (ms : List Managed) (k : ℕ) (d : Managed) → k < length ms → AllByRecursion P (groups_in ms) → P (get_or ms k d).group
+group_at P [] k d short all = absurd (omega arith)
+group_at P (m ∷ ms) zero d short all = all.0
+group_at P (m ∷ ms) (suc k) d short all = group_at P ms k d (omega arith) all.1
 
-pub acker_here : (ms : List Managed) (k : ℕ) (p : Managed) (from : Alias) → k < length ms → p ≡ get_or ms k p → AllByRecursion (λ xs. is_among xs from ≡ true) (ackers_in ms)
-    → is_among (ackers_of p) from ≡ true
-acker_here ms k p from short is all =
-    subst (λ (m : Managed). is_among (ackers_of m) from ≡ true) (sym is) (ackers_at (λ xs. is_among xs from ≡ true) ms k p short all)
+pub group_here : (g : Group) (ms : List Managed) (k : ℕ) (p : Managed) → k < length ms → p ≡ get_or ms k p → AreOf g ms → p.group ≡ g
+group_here g ms k p short is all = ap (λ (m : Managed). m.group) is ∙ group_at (λ x. x ≡ g) ms k p short all
 
 -- a declared alias is among those of the tablets
 first_among : (a : Alias) (t : Tablet) (ts : List Tablet) (b : Bool) → alias_eq t.alias a ≡ b → is_some (cond b (Some t) (tablet_of ts a)) ≡ true
@@ -90,14 +87,18 @@ pub declared_among : (a : Alias) (ts : List Tablet) → is_declared ts a ≡ tru
 declared_among a [] h = absurd (false≢true h)
 declared_among a (t ∷ ts) h = first_among a t ts (alias_eq t.alias a) refl h (declared_among a ts)
 
-all_among : (xss : List (List Alias)) (ys : List Alias) (a : Alias) → AllByRecursion (λ xs. xs ≡ ys) xss → is_among ys a ≡ true → AllByRecursion (λ xs. is_among xs a ≡ true) xss
-all_among [] ys a all h = tt
-all_among (xs ∷ xss) ys a all h = (subst (λ (zs : List Alias). is_among zs a ≡ true) (sym all.0) h, all_among xss ys a all.1 h)
+pub acker_here : (ms : List Managed) (k : ℕ) (p : Managed) (from : Alias) → k < length ms → p ≡ get_or ms k p → KnowAlias from ms → is_among (ackers_of p) from ≡ true
+acker_here ms k p from short is all =
+    let known = group_at (λ g. is_declared g.tablets from ≡ true) ms k p short all in
+    declared_among from p.group.tablets (subst (λ (m : Managed). is_declared m.group.tablets from ≡ true) (sym is) known)
 
-pub all_ackers : (ms : List Managed) (aliases : List Alias) (a : Alias) → aliases ≡ map (λ t. t.alias) (tablets_of ms) → AllByRecursion (λ xs. xs ≡ aliases) (ackers_in ms)
-    → is_declared (tablets_of ms) a ≡ true → AllByRecursion (λ xs. is_among xs a ≡ true) (ackers_in ms)
-all_ackers ms aliases a is all declared =
-    all_among (ackers_in ms) aliases a all (subst (λ (xs : List Alias). is_among xs a ≡ true) (sym is) (declared_among a (tablets_of ms) declared))
+all_know : (gs : List Group) (g : Group) (a : Alias) → AllByRecursion (λ x. x ≡ g) gs → is_declared g.tablets a ≡ true → AllByRecursion (λ x. is_declared x.tablets a ≡ true) gs
+all_know [] g a all declared = tt
+all_know (x ∷ gs) g a all declared = (subst (λ (y : Group). is_declared y.tablets a ≡ true) (sym all.0) declared, all_know gs g a all.1 declared)
+
+-- who is declared in the shard is known to each of its tablets
+pub all_know_alias : (g : Group) (ms : List Managed) (a : Alias) → AreOf g ms → is_declared g.tablets a ≡ true → KnowAlias a ms
+all_know_alias g ms a all declared = all_know (groups_in ms) g a all declared
 
 the_some : {A : Type 0} (o : Option A) → is_some o ≡ true → (x : A) × (o ≡ Some x)
 the_some None some = absurd (false≢true some)
@@ -118,18 +119,18 @@ delivered config w k content h =
 replied : (w : World) (k : ℕ) (content : Content) (h : Carries w.post k content) → delivery_reply w (numbered w.post k) ≡ arrival_reply w content
 replied w k content h = ap (λ (o : Option Message). delivery_reply w o) h.here ∙ ap (λ (c : Content). arrival_reply w c) h.content
 
-abbrev with_both : World → (Alias → TabletState) → List Message → World
-with_both w states post = record w { tablets = states; post = post }
+abbrev with_both : World → Group → (Alias → TabletState) → List Message → World
+with_both w g states post = record w { group = g; tablets = states; post = post }
 
 -- ---- a call
 
-pub called : (config : Config) (w : World) (k c u : ℕ) (a : Alias) (call : Call) (h : Carries w.post k (contents.Asks c u a call)) (me : Tablet) (states : Alias → TabletState)
-    (post : List Message) (says : Answer) → tablet_of config.tablets a ≡ Some me → states ≡ at_tablet w.tablets a (after_call me u call (w.tablets a))
-    → says ≡ answer_to me u call (w.tablets a) → post ≡ changed_at w.post k (arrives w.clock) ++ sent_at w.clock (contents.Answers c k a says) ∷ []
-    → with_both w states post ≡ after_delivery config w k (numbered w.post k)
-called config w k c u a call h me states post says found tablets answer sent =
+pub called : (config : Config) (w : World) (k c u : ℕ) (a : Alias) (call : Call) (h : Carries w.post k (contents.Asks c u a call)) (me : Tablet) (g : Group)
+    (states : Alias → TabletState) (post : List Message) (says : Answer) → tablet_of config.tablets a ≡ Some me → g ≡ w.group
+    → states ≡ at_tablet w.tablets a (after_call w.group me u call (w.tablets a)) → says ≡ answer_to w.group me u call (w.tablets a)
+    → post ≡ changed_at w.post k (arrives w.clock) ++ sent_at w.clock (contents.Answers c k a says) ∷ [] → with_both w g states post ≡ after_delivery config w k (numbered w.post k)
+called config w k c u a call h me g states post says found group tablets answer sent =
     let now = sent ∙ ap (λ (x : Answer). changed_at w.post k (arrives w.clock) ++ sent_at w.clock (contents.Answers c k a x) ∷ []) answer in
-    (λ i. with_both w (tablets i) (now i))
+    (λ i. with_both w (group i) (tablets i) (now i))
     ∙ sym (ap (λ (o : Option Tablet). if_declared o (on_message w k (arrives w.clock)) (asked (on_message w k (arrives w.clock)) k c u a call)) found)
     ∙ sym (delivered config w k (contents.Asks c u a call) h)
 
@@ -148,32 +149,6 @@ answered_post ms sent new last k number now c a blank x there m is count here on
     ∙ last_changed ms (sent_at now (contents.Answers c k a there)) number (answers_now x) count)
     ∙ front_changed ms (sent_at now (contents.Answers c k a x)) m k (arrives now) here
 
--- ---- an answer
-
-by_answer : (config : Config) (w : World) (k call : ℕ) (content : Content) → asks_what content ≡ Some call
-    → after_arrival config w k content ≡ on_message w call (settles (settleds.Answered k))
-by_answer config w k call (contents.Asks c u a x) is = absurd (let none : None ≡ Some call = is in cc)
-by_answer config w k call (contents.Answers c asked a says) is =
-    let same : asked ≡ call = (let some : Some asked ≡ Some call = is in cc) in ap (λ (n : ℕ). on_message w n (settles (settleds.Answered k))) same
-by_answer config w k call (contents.Feeds from to term before index x) is = absurd (let none : None ≡ Some call = is in cc)
-by_answer config w k call (contents.Acks from to term index) is = absurd (let none : None ≡ Some call = is in cc)
-
-pub answer_comes : (config : Config) (w : World) (k call : ℕ) (h : CarriesAnswer w.post k call) (post : List Message)
-    → post ≡ changed_at (changed_at w.post k (arrives w.clock)) call (settles (settleds.Answered k)) → with_both w w.tablets post ≡ after_delivery config w k (numbered w.post k)
-answer_comes config w k call h post new =
-    (λ i. with_both w w.tablets (new i))
-    ∙ sym (by_answer config (on_message w k (arrives w.clock)) k call h.message.content h.answers)
-    ∙ sym (ap (λ (o : Option Message). after_delivery config w k o) h.here)
-
-quiet : (w : World) (call : ℕ) (content : Content) → asks_what content ≡ Some call → arrival_reply w content ≡ replies.Ok
-quiet w call (contents.Asks c u a x) is = absurd (let none : None ≡ Some call = is in cc)
-quiet w call (contents.Answers c asked a says) is = refl
-quiet w call (contents.Feeds from to term before index x) is = absurd (let none : None ≡ Some call = is in cc)
-quiet w call (contents.Acks from to term index) is = absurd (let none : None ≡ Some call = is in cc)
-
-pub answer_reply : (w : World) (k call : ℕ) (h : CarriesAnswer w.post k call) → replies.Ok ≡ delivery_reply w (numbered w.post k)
-answer_reply w k call h = sym (ap (λ (o : Option Message). delivery_reply w o) h.here ∙ quiet w call h.message.content h.answers)
-
 -- ---- an entry
 
 abbrev fed_in : World → Alias → Alias → ℕ → ℕ → Verdict Accepted → World
@@ -183,17 +158,13 @@ by_taken : (from : Alias) (term before index : ℕ) (x : Entry) (s : TabletState
     → (accepts from term before index x s).says ≡ accepteds.Taken
 by_taken from term before index x s takes = rw takes refl
 
-by_ignored : (from : Alias) (term before index : ℕ) (x : Entry) (s : TabletState) → takes_from s.stand from term before ≡ false
-    → (accepts from term before index x s).says ≡ accepteds.Ignored
-by_ignored from term before index x s takes = rw takes refl
-
 pub entry_taken : (config : Config) (w : World) (k term before index : ℕ) (from to : Alias) (x : Entry) (h : Carries w.post k (contents.Feeds from to term before index x))
-    (states : Alias → TabletState) (post : List Message) → takes_from (w.tablets to).stand from term before ≡ true
+    (g : Group) (states : Alias → TabletState) (post : List Message) → takes_from (w.tablets to).stand from term before ≡ true → g ≡ w.group
     → states ≡ at_tablet w.tablets to (accepts from term before index x (w.tablets to)).state
     → post ≡ changed_at w.post k (arrives w.clock) ++ sent_at w.clock (contents.Acks to from term index) ∷ []
-    → with_both w states post ≡ after_delivery config w k (numbered w.post k)
-entry_taken config w k term before index from to x h states post takes tablets sent =
-    (λ i. with_both w (tablets i) (sent i))
+    → with_both w g states post ≡ after_delivery config w k (numbered w.post k)
+entry_taken config w k term before index from to x h g states post takes group tablets sent =
+    (λ i. with_both w (group i) (tablets i) (sent i))
     ∙ sym (ap (λ (a : Accepted). fed (on_message w k (arrives w.clock)) from to term index (accepts from term before index x (w.tablets to)).state a)
     (by_taken from term before index x (w.tablets to) takes))
     ∙ sym (delivered config w k (contents.Feeds from to term before index x) h)
@@ -205,61 +176,13 @@ taken_reply w k term before index number from to x h takes is =
     ∙ sym (ap (λ (a : Accepted). fed_reply w a) (by_taken from term before index x (w.tablets to) takes))
     ∙ sym (replied w k (contents.Feeds from to term before index x) h)
 
-pub entry_ignored : (config : Config) (w : World) (k term before index : ℕ) (from to : Alias) (x : Entry) (h : Carries w.post k (contents.Feeds from to term before index x))
-    (post : List Message) → takes_from (w.tablets to).stand from term before ≡ false → post ≡ changed_at w.post k (arrives w.clock)
-    → with_both w w.tablets post ≡ after_delivery config w k (numbered w.post k)
-entry_ignored config w k term before index from to x h post takes new =
-    (λ i. with_both w w.tablets (new i))
-    ∙ sym (ap (λ (a : Accepted). fed (on_message w k (arrives w.clock)) from to term index (accepts from term before index x (w.tablets to)).state a)
-    (by_ignored from term before index x (w.tablets to) takes))
-    ∙ sym (delivered config w k (contents.Feeds from to term before index x) h)
-
-pub ignored_reply : (w : World) (k term before index : ℕ) (from to : Alias) (x : Entry) (h : Carries w.post k (contents.Feeds from to term before index x))
-    → takes_from (w.tablets to).stand from term before ≡ false → replies.Ok ≡ delivery_reply w (numbered w.post k)
-ignored_reply w k term before index from to x h takes =
-    sym (ap (λ (a : Accepted). fed_reply w a) (by_ignored from term before index x (w.tablets to) takes))
-    ∙ sym (replied w k (contents.Feeds from to term before index x) h)
-
 -- the acknowledgement behind what was there
 pub acked_post : (ms sent last : List Message) (k now : ℕ) (c : Content) (m : Message) → numbered ms k ≡ Some m → sent ≡ ms ++ sent_at now c ∷ [] → last ≡ changed_at sent k (arrives now)
     → last ≡ changed_at ms k (arrives now) ++ sent_at now c ∷ []
 acked_post ms sent last k now c m here one two =
     two ∙ ap (λ (xs : List Message). changed_at xs k (arrives now)) one ∙ front_changed ms (sent_at now c) m k (arrives now) here
 
--- ---- an acknowledgement
-
-pub ack_comes : (config : Config) (w : World) (k term index : ℕ) (from to : Alias) (h : Carries w.post k (contents.Acks from to term index)) (states : Alias → TabletState) (post : List Message)
-    → states ≡ at_tablet w.tablets to (after_ack from term index (w.tablets to)) → post ≡ changed_at w.post k (arrives w.clock)
-    → with_both w states post ≡ after_delivery config w k (numbered w.post k)
-ack_comes config w k term index from to h states post tablets new =
-    (λ i. with_both w (tablets i) (new i)) ∙ sym (delivered config w k (contents.Acks from to term index) h)
-
-pub ack_reply : (w : World) (k term index : ℕ) (from to : Alias) (h : Carries w.post k (contents.Acks from to term index)) → replies.Ok ≡ delivery_reply w (numbered w.post k)
-ack_reply w k term index from to h = sym (replied w k (contents.Acks from to term index) h)
-
--- ---- what may be delivered
-
-not_true : (b : Bool) → not b ≡ true → b ≡ false
-not_true true h = absurd (false≢true h)
-not_true false h = refl
-
--- its receiver takes it
-received : (w : World) (k : ℕ) (m : Message) → passes (may_arrive w) (numbered w.post k) ≡ true → numbered w.post k ≡ Some m → is_received w m.content ≡ true
-received w k m met here =
-    let may : may_arrive w m ≡ true = subst (λ (o : Option Message). passes (may_arrive w) o ≡ true) here met in
-    both_right (not m.lost && not (is_cut w.cuts (link_of m.content))) (is_received w m.content) may
-
-pub call_up : (w : World) (k c u : ℕ) (a : Alias) (call : Call) (m : Message) → passes (may_arrive w) (numbered w.post k) ≡ true → numbered w.post k ≡ Some m
-    → m.content ≡ contents.Asks c u a call → is_down (w.tablets a).stand ≡ false
-call_up w k c u a call m met here is =
-    let up : is_received w (contents.Asks c u a call) ≡ true = subst (λ (x : Content). is_received w x ≡ true) is (received w k m met here) in
-    not_true (is_down (w.tablets a).stand) (both_left (not (is_down (w.tablets a).stand)) (is_ready w (w.tablets a) u call) up)
+-- ---- what a message carries
 
 pub sound_here : (config : Config) (w : World) (k : ℕ) (m : Message) (c : Content) → AreSound config w → numbered w.post k ≡ Some m → m.content ≡ c → IsSoundContent config c
 sound_here config w k m c sound here is = subst (λ (x : Content). IsSoundContent config x) is (sound.post k m here)
-
-pub carries : (ms : List Message) (k : ℕ) (m : Message) (c : Content) → numbered ms k ≡ Some m → m.content ≡ c → Carries ms k c
-carries ms k m c here is = record { message = m; here = here; content = is }
-
-pub carries_answer : (ms : List Message) (k c call : ℕ) (a : Alias) (x : Answer) (m : Message) → numbered ms k ≡ Some m → m.content ≡ contents.Answers c call a x → CarriesAnswer ms k call
-carries_answer ms k c call a x m here is = record { message = m; here = here; answers = ap asks_what is }

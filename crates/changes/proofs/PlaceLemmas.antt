@@ -8,12 +8,12 @@ use Rattle.shard_names.specs.Tablets.{alias_eq, tablet_of, is_declared}
 use Rattle.shard_names.proofs.TabletLemmas.{alias_eq_is, alias_eq_itself}
 use Rattle.shard_names.specs.declared.alias.Alias.{Alias}
 use Rattle.shard_names.specs.declared.tablet.Tablet.{Tablet}
-use Rattle.tablet_manager.specs.Managed.{Managed, state_of, ackers_of, SameTablet}
+use Rattle.tablet_manager.specs.Managed.{Managed, state_of, SameTablet}
+use Rattle.shard_calls.specs.Groups.{Group}
 use Rattle.shard_calls.specs.Logs.{greatest_number}
 use Rattle.shard_calls.specs.Tablets.{TabletState}
 use Rattle.shard_calls.specs.World.{at_tablet}
-use Rattle.shard_state.specs.State.{tablets_of, state_at}
-use Rattle.changes.specs.Sound.{ackers_in}
+use Rattle.shard_state.specs.State.{tablets_of, groups_in, state_at}
 use Rattle.changes.specs.Places.{IsAt, IsNowhere, Changes, Becomes}
 
 differs : (a b : Alias) → alias_eq a b ≡ false → a ≢ b
@@ -117,10 +117,10 @@ state_set (p ∷ ps) a (suc k) q d h same b = next_set ps a b k p q (alias_eq a 
 
 -- ---- one manager that changes
 
-ackers_set : (ms : List Managed) (k : ℕ) (q d : Managed) → k < length ms → ackers_of q ≡ ackers_of (get_or ms k d) → ackers_in (set ms k q) ≡ ackers_in ms
-ackers_set [] k q d short same = absurd (omega arith)
-ackers_set (m ∷ ms) zero q d short same = ap (λ (xs : List Alias). xs ∷ ackers_in ms) same
-ackers_set (m ∷ ms) (suc k) q d short same = ap (λ (xs : List (List Alias)). ackers_of m ∷ xs) (ackers_set ms k q d (omega arith) same)
+groups_set : (ms : List Managed) (k : ℕ) (q d : Managed) → k < length ms → q.group ≡ (get_or ms k d).group → groups_in (set ms k q) ≡ groups_in ms
+groups_set [] k q d short same = absurd (omega arith)
+groups_set (m ∷ ms) zero q d short same = ap (λ (g : Group). g ∷ groups_in ms) same
+groups_set (m ∷ ms) (suc k) q d short same = ap (λ (gs : List Group). m.group ∷ gs) (groups_set ms k q d (omega arith) same)
 
 -- a manager that becomes so makes the tablet become so
 pub changes_here : (ms : List Managed) (a : Alias) (k : ℕ) (p q : Managed) (f : TabletState → TabletState) → k < length ms → IsAt ms a k → p ≡ get_or ms k p
@@ -130,7 +130,7 @@ changes_here ms a k p q f short at is same new =
     let state : state_of q ≡ f (state_at ms a) = new ∙ ap f (ap (λ (m : Managed). state_of m) is ∙ sym (state_here ms a k p at)) in
     record {
       tablets = tablets_set ms k q p short who;
-      ackers = ackers_set ms k q p short (same.1 ∙ ap (λ (m : Managed). ackers_of m) is);
+      groups = groups_set ms k q p short (same.1 ∙ ap (λ (m : Managed). m.group) is);
       states = (λ i b. state_set ms a k q p at who b i) ∙ ap (λ (s : TabletState). at_tablet (state_at ms) a s) state;
     }
 

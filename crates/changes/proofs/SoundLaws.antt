@@ -22,18 +22,19 @@ use Rattle.shard_calls.specs.declared.post.Message.{Message}
 use Rattle.shard_calls.specs.declared.stand.Stand.{Stand}
 use Rattle.shard_calls.specs.declared.stand.Stand.TheVariants as stands
 use Rattle.shard_calls.specs.declared.state.CommandState.{CommandState}
+use Rattle.shard_calls.specs.Groups.{Group}
 use Rattle.shard_calls.specs.Logs.{has_row, newest_row_names, position_of}
 use Rattle.shard_calls.specs.Stands.{is_down, is_primary_of, is_replica_in, primary_term, takes_from, waits_for}
 use Rattle.shard_calls.specs.Tablets.{TabletState, Verdict, after_call, in_term, only_says, stops, demotes, promotes, joins, waits_told, writes_own}
-use Rattle.shard_calls.specs.World.{Config, World, opening, numbered, open_command, term_in}
+use Rattle.shard_calls.specs.World.{Config, World, group_of, opening, numbered, open_command, term_in}
 use Rattle.shard_calls.specs.Locks.{by_term}
 use Rattle.shard_calls.specs.Deliveries.{may_send, may_ask_in, asks_status}
 use Rattle.shard_calls.specs.Table.{Met, change}
 use Rattle.shard_calls.proofs.LawLemmas.{chosen}
 use Rattle.shard_calls.proofs.PostLemmas.{Sent, Asked, Replied, Acked, Offered, PostCases, post_cases}
 use Rattle.shard_calls.proofs.TouchLemmas.{Touched, Untouched, Called, Fed, Heard, WrittenBy, WrittenLocal, Crashed, Restarted, touched}
-use Rattle.shard_state.specs.State.{Data, tablets_of}
-use Rattle.changes.specs.Sound.{FitsCall, NamesSource, IsSoundContent, HasSource, AreSound, Fits, ackers_in}
+use Rattle.shard_state.specs.State.{Data, group_in, groups_in, tablets_of}
+use Rattle.changes.specs.Sound.{FitsCall, NamesSource, IsSoundContent, HasSource, AreSound, Fits}
 use Rattle.changes.specs.Makes.{Makes}
 use Rattle.changes.proofs.OfferLemmas.{offered}
 
@@ -105,24 +106,25 @@ in_term_source : (config : Config) (u : ℕ) (s : TabletState) (f : TabletState 
     → Stays config (in_term u s f)
 in_term_source config u s f old new = chosen (Stays config) (nat_lt u s.seen) _ (f (record s { seen = u })) (λ stale. old) (λ fresh. new)
 
-call_source : (config : Config) (me : Tablet) (u : ℕ) (call : Call) (s : TabletState) → NamesSource config call → HasSource config s.stand → HasSource config (after_call me u call s).stand
-call_source config me u calls.Status s named old = old
-call_source config me u calls.Stop s named old =
+call_source : (config : Config) (g : Group) (me : Tablet) (u : ℕ) (call : Call) (s : TabletState) → NamesSource config call → HasSource config s.stand
+    → HasSource config (after_call g me u call s).stand
+call_source config g me u calls.Status s named old = old
+call_source config g me u calls.Stop s named old =
     in_term_source config u s (stops u) old (either (λ t. HasSource config t.stand) (s.promised == u) (record s { seen = u }) _ old tt)
-call_source config me u calls.Demote s named old =
+call_source config g me u calls.Demote s named old =
     in_term_source config u s (demotes me u) old
     (chosen (Stays config) (s.promised == u) _ _ (λ there. old)
     (λ other. chosen (Stays config) (newest_row_names s.log me.alias) _ _ (λ own. tt) (λ no_own. old)))
-call_source config me u (calls.Promote p) s named old =
+call_source config g me u (calls.Promote p) s named old =
     in_term_source config u s (promotes me u p) old
     (chosen (Stays config) (has_row s.log u) _ _ (λ there. old)
     (λ none. chosen (Stays config) (covers (position_of s.log) p) _ _ (λ caught. tt) (λ short. old)))
-call_source config me u (calls.SetSource source t p) s named old =
+call_source config g me u (calls.SetSource source t p) s named old =
     in_term_source config u s (joins source t p) old
     (chosen (Stays config) (nat_lt t s.promised) _ _ (λ ahead. old)
     (λ fresh. chosen (Stays config) (is_primary_of s.stand t || is_replica_in s.stand t) _ _ (λ kept. old)
     (λ other. chosen (Stays config) (covers p (position_of s.log)) _ _ (λ inside. (named, omega arith)) (λ errant. old))))
-call_source config me u (calls.WaitTold until) s named old = in_term_source config u s (waits_told u) old old
+call_source config g me u (calls.WaitTold until) s named old = in_term_source config u s (waits_told g me u) old old
 
 waits_source : (config : Config) (at : Stand) (index : ℕ) → HasSource config at → HasSource config (waits_for at (index + 1))
 waits_source config stands.Down index old = tt
@@ -139,7 +141,7 @@ write_source config (Some t) me client number s old = old
 touched_source : (config : Config) (w : World) (a : Alias) (e : Event) (t : TabletState) → AreSound config w → Touched config w a e t → HasSource config t.stand
 touched_source config w a _ _ sound Untouched = sound.sources a
 touched_source config w a _ _ sound (Called k c u call me m here carries found) =
-    call_source config me u call (w.tablets a) (carried config w k m (contents.Asks c u a call) sound here carries).1.1 (sound.sources a)
+    call_source config w.group me u call (w.tablets a) (carried config w k m (contents.Asks c u a call) sound here carries).1.1 (sound.sources a)
 touched_source config w a _ _ sound (Fed k term before index from x m here carries taken) =
     chosen (λ v. HasSource config v.state.stand) (takes_from (w.tablets a).stand from term before) _ _
     (λ takes. waits_source config (w.tablets a).stand index (sound.sources a)) (λ ignored. sound.sources a)
@@ -174,6 +176,6 @@ fits_after old new e reply made fits =
     let tablets : tablets_of new.managers ≡ tablets_of old.managers = ap (λ (c : Config). c.tablets) made.config in
     record {
       aliases = made.aliases ∙ fits.aliases ∙ sym (ap (λ (ts : List Tablet). map (λ t. t.alias) ts) tablets);
-      ackers = subst (λ (xss : List (List Alias)). AllByRecursion (λ xs. xs ≡ new.aliases) xss) (sym made.ackers)
-          (subst (λ (ys : List Alias). AllByRecursion (λ xs. xs ≡ ys) (ackers_in old.managers)) (sym made.aliases) fits.ackers);
+      group = subst (λ (gs : List Group). AllByRecursion (λ g. g ≡ group_in new) gs) (sym made.groups)
+          (subst (λ (c : Config). AllByRecursion (λ g. g ≡ group_of c) (groups_in old.managers)) (sym made.config) fits.group);
     }

@@ -1,4 +1,4 @@
--- What each row keeps of the numbers and the messages, and that no row reads what is past.
+-- What each row keeps of the numbers, the messages and the shard, and that no row reads what is past.
 use Rattle.std.specs.Prelude.{◌≡◌, ◌≤◌, ℕ, ◌+◌, List}
 use Rattle.shard_calls.specs.declared.event.Event.{Event}
 use Rattle.shard_calls.specs.declared.event.Reply.{Reply}
@@ -29,6 +29,10 @@ BeginsSound = (config : Config) → AreSound config (opening config)
 
 abbrev pub KeepsFit : Type 0
 KeepsFit = (old new : Data) (e : Event) (reply : Reply) → Makes old new e reply → Fits old → Fits new
+
+-- the tablets and the policy of the shard stay
+abbrev pub KeepsGroup : Type 0
+KeepsGroup = (config : Config) (w : World) (e : Event) → (change config w e).group ≡ w.group
 
 -- the world with other steps past
 abbrev pub with_past : World → List Step → World

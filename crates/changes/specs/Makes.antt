@@ -10,15 +10,14 @@ use Rattle.shard_calls.specs.World.{World, numbered}
 use Rattle.shard_calls.specs.Messages.{why_given_up, offer_to}
 use Rattle.shard_calls.specs.Writes.{tell_of}
 use Rattle.shard_calls.specs.Table.{answer, change}
-use Rattle.shard_state.specs.State.{Data, config_in, seen}
-use Rattle.changes.specs.Sound.{ackers_in}
+use Rattle.shard_state.specs.State.{Data, config_in, groups_in, seen}
 use Rattle.changes.specs.declared.found.Found.{Found}
 
 -- the row of the event leads from the old fields to the new ones, and gives this reply
 pub record Makes (old new : Data) (e : Event) (said : Reply) : Type 0 where
   pub config : config_in new ≡ config_in old
   pub aliases : new.aliases ≡ old.aliases
-  pub ackers : ackers_in new.managers ≡ ackers_in old.managers
+  pub groups : groups_in new.managers ≡ groups_in old.managers
   pub world : seen new ≡ change (config_in old) (seen old) e
   pub reply : said ≡ answer (config_in old) (seen old) e
 

@@ -1,13 +1,14 @@
 -- Where a tablet stands among the managers, and what it is to change one of them.
-use Rattle.std.specs.Prelude.{◌≡◌, ◌≢◌, ℕ, zero, suc, List, [], ◌∷◌, Some, ⊤}
+use Rattle.std.specs.Prelude.{◌≡◌, ◌≢◌, ℕ, zero, suc, true, List, [], ◌∷◌, Some, ⊤}
+use Rattle.std.specs.List.{AllByRecursion}
 use Rattle.shard_names.specs.declared.alias.Alias.{Alias}
 use Rattle.shard_names.specs.declared.tablet.Tablet.{Tablet}
-use Rattle.shard_names.specs.Tablets.{tablet_of}
+use Rattle.shard_names.specs.Tablets.{tablet_of, is_declared}
+use Rattle.shard_calls.specs.Groups.{Group}
 use Rattle.shard_calls.specs.Tablets.{TabletState}
 use Rattle.shard_calls.specs.World.{at_tablet}
 use Rattle.tablet_manager.specs.Managed.{Managed}
-use Rattle.shard_state.specs.State.{tablets_of, state_at}
-use Rattle.changes.specs.Sound.{ackers_in}
+use Rattle.shard_state.specs.State.{tablets_of, groups_in, state_at}
 
 -- the alias stands at this place, and at none before it
 abbrev pub IsAt : List Managed → Alias → ℕ → Type 0
@@ -20,10 +21,18 @@ abbrev pub IsNowhere : List Managed → Alias → Type 0
 IsNowhere [] a = ⊤
 IsNowhere (m ∷ ms) a = (m.me.alias ≢ a) × IsNowhere ms a
 
+-- each tablet knows this of its shard
+abbrev pub AreOf : Group → List Managed → Type 0
+AreOf g managers = AllByRecursion (λ x. x ≡ g) (groups_in managers)
+
+-- each tablet knows of the one with this alias
+abbrev pub KnowAlias : Alias → List Managed → Type 0
+KnowAlias a managers = AllByRecursion (λ x. is_declared x.tablets a ≡ true) (groups_in managers)
+
 -- the tablet of this alias is in a new state, and nothing else changes
 pub record Changes (old new : List Managed) (a : Alias) (s : TabletState) : Type 0 where
   pub tablets : tablets_of new ≡ tablets_of old
-  pub ackers : ackers_in new ≡ ackers_in old
+  pub groups : groups_in new ≡ groups_in old
   pub states : state_at new ≡ at_tablet (state_at old) a s
 
 -- the tablet becomes what a definition says of it

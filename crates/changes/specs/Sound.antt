@@ -1,6 +1,5 @@
--- Messages that their receivers can take: between declared tablets, and calls that can be made of their tablet.
-use Rattle.std.specs.Prelude.{◌≡◌, ◌≤◌, ℕ, true, false, List, Some, map, ⊤}
-use Rattle.std.specs.List.{AllByRecursion}
+-- Messages that their receivers can take: between declared tablets, and calls that can be made of their tablet. And tablets that know their shard.
+use Rattle.std.specs.Prelude.{◌≡◌, ◌≤◌, ℕ, true, false, Some, map, ⊤}
 use Rattle.shard_names.specs.declared.alias.Alias.{Alias}
 use Rattle.shard_names.specs.Tablets.{alias_eq, is_declared}
 use Rattle.shard_calls.specs.declared.call.Call.{Call}
@@ -11,8 +10,7 @@ use Rattle.shard_calls.specs.declared.post.Message.{Message}
 use Rattle.shard_calls.specs.declared.stand.Stand.{Stand}
 use Rattle.shard_calls.specs.declared.stand.Stand.TheVariants as stands
 use Rattle.shard_calls.specs.World.{Config, World, numbered}
-use Rattle.tablet_manager.specs.Managed.{Managed, ackers_of}
-use Rattle.shard_state.specs.State.{Data, tablets_of}
+use Rattle.shard_state.specs.State.{Data, tablets_of, AreOfGroup}
 
 -- a tablet replicates from another, in a term that is not above that of the call
 abbrev pub FitsCall : Alias → ℕ → Call → Type 0
@@ -50,11 +48,7 @@ pub record AreSound (config : Config) (w : World) : Type 0 where
   pub post : (k : ℕ) (m : Message) → numbered w.post k ≡ Some m → IsSoundContent config m.content
   pub sources : (a : Alias) → HasSource config (w.tablets a).stand
 
--- the tablets that may acknowledge to each tablet
-abbrev pub ackers_in : List Managed → List (List Alias)
-ackers_in managers = map ackers_of managers
-
--- the post knows the tablets, and each tablet may acknowledge to each
+-- the post knows the tablets, and each tablet knows the shard as it is kept
 pub record Fits (d : Data) : Type 0 where
   pub aliases : d.aliases ≡ map (λ t. t.alias) (tablets_of d.managers)
-  pub ackers : AllByRecursion (λ xs. xs ≡ d.aliases) (ackers_in d.managers)
+  pub group : AreOfGroup d

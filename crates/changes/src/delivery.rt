@@ -1,20 +1,20 @@
 ghost use Rattle.std.specs.Prelude.{◌≡◌, ◌<◌, ◌≤◌, ◌-◌, ◌^◌, ℕ, List, true, false, length, OnOk, OnErr, IfOk, Some};
-ghost use Rattle.shard_names.specs.Tablets.{alias_eq, is_among, is_declared, tablet_of};
+ghost use Rattle.shard_names.specs.Tablets.{alias_eq, is_declared, tablet_of};
 ghost use Rattle.shard_names.specs.declared.tablet.Tablet.{Tablet};
 ghost use Rattle.shard_calls.specs.Logs.{greatest_number};
+ghost use Rattle.shard_calls.specs.Groups.{Group};
 ghost use Rattle.shard_calls.specs.Stands.{is_down, takes_from};
 ghost use Rattle.shard_calls.specs.Tablets.{accepts, after_ack, after_call, answer_to};
 ghost use Rattle.shard_calls.specs.Table.{meets};
 ghost use Rattle.shard_calls.specs.declared.event.Event.TheVariants as events;
 ghost use Rattle.shard_calls.specs.declared.answer.Answer.TheVariants as answers;
 ghost use Rattle.shard_calls.specs.declared.post.Content.TheVariants as contents;
-ghost use Rattle.std.specs.List.{AllByRecursion};
 ghost use Rattle.tablet_manager.specs.Managed.{state_of, SameTablet};
-ghost use Rattle.shard_state.specs.State.{data_of, config_in, seen, state_at, tablets_of};
+ghost use Rattle.shard_state.specs.State.{data_of, config_in, seen, state_at, tablets_of, AreOfGroup};
 ghost use Rattle.changes.specs.Few.{AreFew};
-ghost use Rattle.changes.specs.Sound.{AreSound, Fits, FitsCall, ackers_in};
+ghost use Rattle.changes.specs.Sound.{AreSound, Fits, FitsCall};
 ghost use Rattle.changes.specs.Makes.{Makes, Carries, CarriesAnswer};
-ghost use Rattle.changes.specs.Places.{Becomes, Changes};
+ghost use Rattle.changes.specs.Places.{AreOf, Becomes, Changes, KnowAlias};
 
 use crate::calls::copy_call;
 use crate::tablets::find_manager;
@@ -30,8 +30,8 @@ fn run(manager: &mut Manager, term: u64, call: &Call) -> Result<Answer, OutOfMem
     requires up { is_down manager.old.stand ≡ false }
     requires numbered { greatest_number manager.old.me.server manager.old.log.entries ≤ 9223372036854775805 }
     requires fits { FitsCall manager.old.me.alias term call.now }
-    ensures answer { IfOk result (λ answer. answer ≡ answer_to manager.old.me term call.now (state_of manager.old)) }
-    ensures state { OnOk result (state_of manager.new ≡ after_call manager.old.me term call.now (state_of manager.old)) }
+    ensures answer { IfOk result (λ answer. answer ≡ answer_to manager.old.group manager.old.me term call.now (state_of manager.old)) }
+    ensures state { OnOk result (state_of manager.new ≡ after_call manager.old.group manager.old.me term call.now (state_of manager.old)) }
     ensures who { SameTablet manager.old manager.new }
     ensures err { OnErr result (manager.new ≡ manager.old) }
 {
@@ -63,8 +63,8 @@ fn run_at(
     requires up { is_down (state_at managers.old.items alias.now).stand ≡ false }
     requires numbered { (server : List ℕ) → greatest_number server (state_at managers.old.items alias.now).log ≤ 9223372036854775805 }
     requires fits { FitsCall alias.now term call.now }
-    ensures state { OnOk result (Becomes managers.old.items managers.new.items alias.now (λ me s. after_call me term call.now s)) }
-    ensures answer { IfOk result (λ answer. (me : Tablet) → tablet_of (tablets_of managers.old.items) alias.now ≡ Some me → answer ≡ answer_to me term call.now (state_at managers.old.items alias.now)) }
+    ensures state { OnOk result ((g : Group) → AreOf g managers.old.items → Becomes managers.old.items managers.new.items alias.now (λ me s. after_call g me term call.now s)) }
+    ensures answer { IfOk result (λ answer. (g : Group) (me : Tablet) → AreOf g managers.old.items → tablet_of (tablets_of managers.old.items) alias.now ≡ Some me → answer ≡ answer_to g me term call.now (state_at managers.old.items alias.now)) }
     ensures err { OnErr result (managers.new.items ≡ managers.old.items) }
 {
     match find_manager(managers, alias) {
@@ -94,6 +94,7 @@ fn deliver_call(
     to: &Alias,
     call: &Call,
 ) -> Result<Reply, OutOfMemory>
+    requires group { AreOfGroup (data_of fields.old) }
     requires here { Carries fields.old.post.messages message (contents.Asks command term to.now call.now) }
     requires declared { is_declared (tablets_of fields.old.managers.items) to.now ≡ true }
     requires up { is_down (state_at fields.old.managers.items to.now).stand ≡ false }
@@ -204,7 +205,7 @@ fn deliver_entry(
 /// The tablet notes what the other has.
 fn ack_at(managers: &mut Vec<Manager>, alias: &Alias, from: &Alias, term: u64, index: u64)
     requires declared { is_declared (tablets_of managers.old.items) alias.now ≡ true }
-    requires ackers { AllByRecursion (λ xs. is_among xs from.now ≡ true) (ackers_in managers.old.items) }
+    requires known { KnowAlias from.now managers.old.items }
     ensures { Changes managers.old.items managers.new.items alias.now (after_ack from.now term index (state_at managers.old.items alias.now)) }
 {
     match find_manager(managers, alias) {
@@ -224,7 +225,7 @@ fn deliver_ack(
 ) -> Reply
     requires here { Carries fields.old.post.messages message (contents.Acks from.now to.now term index) }
     requires declared { is_declared (tablets_of fields.old.managers.items) to.now ≡ true }
-    requires ackers { AllByRecursion (λ xs. is_among xs from.now ≡ true) (ackers_in fields.old.managers.items) }
+    requires known { KnowAlias from.now fields.old.managers.items }
     ensures { Makes (data_of fields.old) (data_of fields.new) (events.Deliver message) result }
 {
     let now = fields.clock;

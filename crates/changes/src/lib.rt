@@ -14,5 +14,7 @@ mod tablets;
 mod writes;
 
 pub use found::Found;
-pub use laws::{fields_go_on_fitting, messages_stay_sound, no_row_reads_past, numbers_stay_few};
+pub use laws::{
+    fields_go_on_fitting, group_stays, messages_stay_sound, no_row_reads_past, numbers_stay_few,
+};
 pub use rows::change;

@@ -4,11 +4,12 @@ use Rattle.std.specs.List.{list_any, filter, Contains}
 use Rattle.std.proofs.lemmas.List.Folds.{list_any_at, list_any_none}
 use Rattle.std.proofs.lemmas.List.Elements.{All-head, All-tail, All-contains}
 use Rattle.std.proofs.lemmas.Bool.Decides.{nat_tests}
+use Rattle.shard_names.specs.declared.alias.Alias.{Alias}
 use Rattle.shard_names.specs.declared.tablet.Tablet.{Tablet}
 use Rattle.shard_names.proofs.TabletLemmas.{both, both_left, both_right}
 use Rattle.durability.specs.Rules.{Rules}
-use Rattle.durability.specs.Sets.{TabletSet, ackers_in, Accepted, Meets, HasAll, RevokesPrimary, Establishes}
-use Rattle.durability.specs.Counting.{is_accepted, is_revoked, CountingIsRevocation, CountingIsEstablishing}
+use Rattle.durability.specs.Sets.{TabletSet, ackers_in, Accepted, is_accepted, TestIsAccepted, Meets, HasAll, RevokesPrimary, Establishes}
+use Rattle.durability.specs.Counting.{is_revoked, CountingIsRevocation, CountingIsEstablishing}
 
 -- the tablets that are not reached
 abbrev unreached : TabletSet → TabletSet
@@ -121,12 +122,22 @@ is_accepted_of rules tablets primary set a = both (set primary.alias) _ a.primar
   test_of_le : (m n : ℕ) → m ≤ n → nat_le m n ≡ true
   test_of_le m n h = grind (arith, nat_tests)
 
+pub test_is_accepted : TestIsAccepted
+test_is_accepted rules tablets primary set = (accepted_of rules tablets primary set, is_accepted_of rules tablets primary set)
+
 -- a set that has all of an accepted set is accepted
 more_accepted : (rules : Rules) (tablets : List Tablet) (reached : TabletSet) (chosen : Tablet) → Contains tablets chosen
     → Establishes rules tablets reached chosen → Accepted rules tablets chosen reached
 more_accepted rules tablets reached chosen declared e = record {
   primary_in = All-contains (λ t. IsTrue (e.quorum t.alias) → IsTrue (reached t.alias)) tablets chosen e.within declared e.accepted.primary_in;
   enough = (let fewer = fewer_within (rules.is_acker chosen) reached e.quorum tablets e.within in let enough = e.accepted.enough in omega (arith, fewer, enough));
+}
+
+pub wider_accepted : (rules : Rules) (tablets : List Tablet) (primary : Tablet) (set wider : TabletSet) → ((a : Alias) → IsTrue (set a) → IsTrue (wider a))
+    → Accepted rules tablets primary set → Accepted rules tablets primary wider
+wider_accepted rules tablets primary set wider within accepted = record {
+  primary_in = within primary.alias accepted.primary_in;
+  enough = (let fewer = fewer_within (rules.is_acker primary) wider set tablets (λ k d lt. within (get_or tablets k d).alias) in let enough = accepted.enough in omega (arith, fewer, enough));
 }
 
 pub counting_establishes : CountingIsEstablishing

@@ -1,12 +1,9 @@
--- The tests by counts that programs make in place of the definitions over all sets, and that they say the same.
-use Rattle.std.specs.Prelude.{Bool, not, ◌&&◌, ◌||◌, nat_lt, nat_le, List, IsTrue, Contains, ◌↔◌}
+-- The tests by counts that programs make in place of the definitions over all sets, and that they say the same (after S. Sougoumarane,
+-- Consensus Algorithms at Scale).
+use Rattle.std.specs.Prelude.{Bool, not, ◌&&◌, ◌||◌, nat_lt, List, IsTrue, Contains, ◌↔◌}
 use Rattle.shard_names.specs.declared.tablet.Tablet.{Tablet}
 use Rattle.durability.specs.Rules.{Rules, is_eligible}
-use Rattle.durability.specs.Sets.{TabletSet, ackers_in, RevokesPrimary, Establishes}
-
--- the set has the primary and enough of its ackers
-abbrev pub is_accepted : Rules → List Tablet → Tablet → TabletSet → Bool
-is_accepted rules tablets primary set = set primary.alias && nat_le (rules.acks primary) (ackers_in rules tablets primary set)
+use Rattle.durability.specs.Sets.{TabletSet, ackers_in, is_accepted, RevokesPrimary, Establishes}
 
 -- the primary is reached, or fewer of its ackers are left unreached than it needs
 abbrev pub is_revoked : Rules → List Tablet → TabletSet → Tablet → Bool

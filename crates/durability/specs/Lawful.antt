@@ -1,4 +1,4 @@
--- The five policies have the laws of a policy.
+-- The five policies (Vitess manual, Durability Policy) have the laws of a policy.
 use Rattle.std.proofs.Common.{◌≡◌, ◌≢◌, Bool, true, false, not, IsTrue, ap}
 use Rattle.std.specs.Str.{bytes_eq}
 use Rattle.std.proofs.lemmas.Slice.Eq.{bytes_eq-Decides}

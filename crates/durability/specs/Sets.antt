@@ -1,6 +1,6 @@
 -- Sets of tablets that accept a write, revoke a primary and establish one (after S. Sougoumarane, Consensus Algorithms at
 -- Scale, Establishment and revocation).
-use Rattle.std.specs.Prelude.{◌≡◌, ◌≤◌, ℕ, Bool, ◌&&◌, List, ◌∷◌, ◌++◌, filter, length, IsTrue, All}
+use Rattle.std.specs.Prelude.{◌≡◌, ◌≤◌, ◌↔◌, ℕ, Bool, ◌&&◌, nat_le, List, ◌∷◌, ◌++◌, filter, length, IsTrue, All}
 use Rattle.std.specs.List.{list_any}
 use Rattle.shard_names.specs.declared.alias.Alias.{Alias}
 use Rattle.shard_names.specs.declared.tablet.Tablet.{Tablet}
@@ -18,6 +18,15 @@ ackers_in rules tablets primary set = length (filter (λ t. rules.is_acker prima
 pub record Accepted (rules : Rules) (tablets : List Tablet) (primary : Tablet) (set : TabletSet) : Type 0 where
   pub primary_in : IsTrue (set primary.alias)
   pub enough : rules.acks primary ≤ ackers_in rules tablets primary set
+
+-- the same as a test
+abbrev pub is_accepted : Rules → List Tablet → Tablet → TabletSet → Bool
+is_accepted rules tablets primary set = set primary.alias && nat_le (rules.acks primary) (ackers_in rules tablets primary set)
+
+abbrev pub TestIsAccepted : Type 0
+TestIsAccepted =
+    (rules : Rules) (tablets : List Tablet) (primary : Tablet) (set : TabletSet)
+    → IsTrue (is_accepted rules tablets primary set) ↔ Accepted rules tablets primary set
 
 -- some tablet is in both sets
 abbrev pub Meets : List Tablet → TabletSet → TabletSet → Type 0

@@ -6,7 +6,8 @@ mod revocation;
 
 pub use policy::{Durability, Policy, UnknownPolicy, read_policy};
 pub use revocation::{
-    Short, can_establish, counting_is_establishing, counting_is_revocation, first_unrevoked,
+    Short, can_establish, counting_is_acceptance, counting_is_establishing, counting_is_revocation,
+    first_unrevoked, is_eligible,
 };
 
 #[cfg(test)]

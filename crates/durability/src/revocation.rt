@@ -2,7 +2,7 @@ ghost use Rattle.std.specs.Prelude.{◌≡◌, ◌<◌, ◌≤◌, ◌↔◌, no
 ghost use Rattle.std.specs.Option.{option_copied};
 ghost use Rattle.shard_names.specs.Tablets.{is_among, is_declared, tablet_of};
 ghost use Rattle.durability.specs.Rules.{is_eligible};
-ghost use Rattle.durability.specs.Sets.{ackers_in, Revokes, Establishes, IsFirstUnrevoked};
+ghost use Rattle.durability.specs.Sets.{ackers_in, TestIsAccepted, Revokes, Establishes, IsFirstUnrevoked};
 ghost use Rattle.durability.specs.Counting.{is_revoked, is_unrevoked, CountingIsRevocation, CountingIsEstablishing};
 
 use crate::Policy;
@@ -14,6 +14,12 @@ pub struct Short {
     pub have: u32,
     pub need: u32,
 }
+
+/// For every policy: a set is accepted for a primary exactly where it has the primary, and at least as many of the primary's
+/// ackers as the policy asks for.
+pub fn counting_is_acceptance()
+    ensures { TestIsAccepted }
+{}
 
 /// For every policy: a set meets each set that is accepted for a primary exactly where the primary is in it, or fewer of the
 /// primary's ackers are outside it than the policy asks for.
@@ -39,7 +45,8 @@ pub(crate) fn find_tablet<'a>(tablets: &'a [Tablet], alias: &Alias) -> Option<&'
     tablets.iter().find(|t| t.alias == *alias)
 }
 
-fn is_eligible<P: Policy>(policy: &P, tablet: &Tablet) -> bool
+/// Whether the policy lets the tablet be promoted: its rule for it is another than `must_not`. It takes no memory.
+pub fn is_eligible<P: Policy>(policy: &P, tablet: &Tablet) -> bool
     ensures { result ≡ is_eligible (P.rules policy.now) tablet.now }
 {
     !matches!(policy.rule(tablet), PromotionRule::MustNot)

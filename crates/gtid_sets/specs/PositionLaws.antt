@@ -1,4 +1,4 @@
--- What positions promise as finite sets.
+-- What positions promise as finite sets, as the GTID sets of the MySQL manual are.
 use Rattle.std.specs.Prelude.{◌≡◌, ◌≤◌, ◌↔◌, ◌⊎◌, ℕ, true, false, not, ◌&&◌, ◌||◌, ◌+◌, if◌then◌else◌, List}
 use Rattle.std.specs.List.{list_any}
 use Rattle.gtid_sets.specs.declared.gtid.Gtid.{Gtid}

@@ -1,4 +1,4 @@
--- Lists of transactions in order, each once.
+-- Lists of transactions in order, each once: as a GTID set is written (MySQL 8.0 manual, GTID Format and Storage).
 use Rattle.std.specs.Prelude.{◌≡◌, Bool, true, false, ◌&&◌, T, List, [], ◌∷◌}
 use Rattle.std.specs.Ordering.{is_lt, ordering_reverse, match_ordering}
 use Rattle.std.specs.declared.cmp.Ordering.{Ordering}

@@ -1,4 +1,4 @@
--- What one transaction adds to the text of its set, by the ones before and behind it.
+-- What one transaction adds to the text of its set, by the ones before and behind it (MySQL 8.0 manual, GTID Format and Storage).
 use Rattle.std.specs.Prelude.{ℕ, ◌+◌, Bool, false, ◌&&◌, List, [], ◌∷◌, Option, Some, None, nat_eq, if◌then◌else◌}
 use Rattle.std.specs.Fmt.{decimal}
 use Rattle.std.specs.Str.{bytes_eq}

@@ -6,6 +6,8 @@ use Rattle.shard_names.specs.declared.tablet.TabletType.TheVariants as types
 use Rattle.shard_names.specs.declared.shard_name.ShardName.{ShardName}
 use Rattle.gtid_sets.specs.declared.gtid.Gtid.{Gtid}
 use Rattle.gtid_sets.specs.Position.{nothing, of_gtids}
+use Rattle.durability.specs.declared.policy.Durability.{Durability}
+use Rattle.durability.specs.declared.policy.Durability.TheVariants as policies
 use Rattle.shard_calls.specs.declared.call.Call.TheVariants as calls
 use Rattle.shard_calls.specs.declared.command.Command.TheVariants as commands
 use Rattle.shard_calls.specs.declared.command.CommandAnswer.TheVariants as answers
@@ -81,6 +83,7 @@ start = 1704067200000
 abbrev three : Config
 three = record {
   tablets = replica_of 100 0 ∷ replica_of 101 1 ∷ replica_of 102 2 ∷ record { alias = alias_of 103; server = server_with 3; kind = types.Spare } ∷ [];
+  policy = policies.None;
   moment = start;
 }
 
@@ -92,8 +95,11 @@ after_begin config a = after config (opening config) (events.Begin main_name (co
 
 -- ---- a first reparent of three tablets
 
+abbrev replicas_under : Durability → Config
+replicas_under policy = record { tablets = replica_of 100 0 ∷ replica_of 101 1 ∷ replica_of 102 2 ∷ []; policy = policy; moment = start }
+
 abbrev replicas : Config
-replicas = record { tablets = replica_of 100 0 ∷ replica_of 101 1 ∷ replica_of 102 2 ∷ []; moment = start }
+replicas = replicas_under policies.None
 
 abbrev events_of_reparent : List Event
 events_of_reparent =
@@ -323,7 +329,7 @@ untold_played = refl
 -- ---- a shard of one tablet, and one that runs out of memory under the lock
 
 abbrev single : Config
-single = record { tablets = replica_of 100 0 ∷ []; moment = start }
+single = record { tablets = replica_of 100 0 ∷ []; policy = policies.None; moment = start }
 
 single_played :
     played single (after_begin single z100) 1 40
@@ -347,3 +353,81 @@ leaving_first = refl
 
 leaving_then : leaves (after replicas after_lapse (events.Release 1)) 1 ≡ events.End 1 (answers.Refused refusals.OutOfMemory)
 leaving_then = refl
+
+-- ---- acknowledgements under semi_sync
+
+abbrev semi : Config
+semi = replicas_under policies.SemiSync
+
+abbrev events_up_to_wait : List Event
+events_up_to_wait =
+    events.Take 1
+    ∷ events.Read 1
+    ∷ events.Intend 1 z100
+    ∷ events.Send 1 z100 (calls.Promote nothing)
+    ∷ events.Deliver 1
+    ∷ events.Deliver 2
+    ∷ events.Record 1 z100
+    ∷ events.Send 1 z101 (calls.SetSource z100 1 (of_gtids (gtid_of 0 1 ∷ [])))
+    ∷ events.Send 1 z102 (calls.SetSource z100 1 (of_gtids (gtid_of 0 1 ∷ [])))
+    ∷ events.Deliver 3
+    ∷ events.Deliver 4
+    ∷ events.Deliver 5
+    ∷ events.Deliver 6
+    ∷ events.Send 1 z100 (calls.WaitTold (start + 15000))
+    ∷ []
+
+-- where no tablet has acknowledged the row, nothing comes, and nothing is done
+wait_played : played semi (after_begin semi z100) 1 40 ≡ events_up_to_wait
+wait_played = refl
+
+abbrev after_semi_wait : World
+after_semi_wait = world_after_events semi (after_begin semi z100) events_up_to_wait
+
+-- and once the time is over the promotion is refused as not acknowledged
+not_told_played :
+    played semi (after semi after_semi_wait (events.Tick 16000)) 1 40
+    ≡ events.Deliver 7
+    ∷ events.Deliver 8
+    ∷ events.Release 1
+    ∷ events.End 1 (answers.Refused (refusals.NotAcknowledged z100 (unackeds.NotTold start (start + 16000))))
+    ∷ []
+not_told_played = refl
+
+-- a replica acknowledges the row, and the promotion counts as committed
+abbrev events_of_ack : List Event
+events_of_ack = events.Offer z101 ∷ events.Deliver 8 ∷ events.Deliver 9 ∷ []
+
+ack_met : all_met semi after_semi_wait events_of_ack ≡ true
+ack_met = refl
+
+abbrev after_ack : World
+after_ack = world_after_events semi after_semi_wait events_of_ack
+
+acked_played :
+    played semi after_ack 1 40 ≡ events.Deliver 7 ∷ events.Deliver 10 ∷ events.Release 1 ∷ events.End 1 (answers.Promoted z100 1 []) ∷ []
+acked_played = refl
+
+-- a write waits to be told until a replica has acknowledged it too
+abbrev after_semi_write : World
+after_semi_write =
+    world_after_events semi after_ack
+    (events.Deliver 7
+    ∷ events.Deliver 10
+    ∷ events.Release 1
+    ∷ events.End 1 (answers.Promoted z100 1 [])
+    ∷ events.Begin main_name (commands.Write None)
+    ∷ events.Write 2 z100
+    ∷ [])
+
+write_waits : may semi after_semi_write 2 ≡ []
+write_waits = refl
+
+abbrev events_of_write_ack : List Event
+events_of_write_ack = events.Offer z101 ∷ events.Deliver 11 ∷ events.Deliver 12 ∷ []
+
+write_ack_met : all_met semi after_semi_write events_of_write_ack ≡ true
+write_ack_met = refl
+
+write_told : may semi (world_after_events semi after_semi_write events_of_write_ack) 2 ≡ events.Tell 2 ∷ []
+write_told = refl

@@ -129,7 +129,7 @@ by_term_own config w c s a (Some t) = taken_own config w c s a t
 
 planned_own : (config : Config) (w : World) (c : ℕ) (s : CommandState) (a : Alias) → AllOwn c (planned_next config w c s a)
 planned_own config w c s a =
-    unless_own c s (refusal_of a (tablet_of config.tablets a))
+    unless_own c s (refusal_of config.policy a (tablet_of config.tablets a))
     (unless_refused c s (first_by refusal_by s.acts) (by_term s.term (events.Take c ∷ []) (taken_next config w c s a)))
     (unless_own c s (first_by refusal_by s.acts) (by_term s.term (events.Take c ∷ []) (taken_next config w c s a)) (by_term_own config w c s a s.term))
 

@@ -19,3 +19,4 @@ pub mod FollowLemmas
 pub mod SentLemmas
 pub mod CameLemmas
 pub mod PastLemmas
+pub mod TellLemmas

@@ -11,6 +11,8 @@ use Rattle.shard_names.specs.declared.alias.Alias.{Alias}
 use Rattle.shard_names.specs.declared.shard_name.ShardName.{ShardName}
 use Rattle.shard_names.specs.declared.tablet.Tablet.{Tablet}
 use Rattle.gtid_sets.specs.Position.{Position}
+use Rattle.durability.specs.Rules.{is_eligible}
+use Rattle.durability.specs.Policies.{rules_of}
 use Rattle.topo_lock.specs.declared.intent.Intent.{Intent}
 use Rattle.shard_calls.specs.declared.answer.Answer.{Answer}
 use Rattle.shard_calls.specs.declared.answer.Answer.TheVariants as says
@@ -31,9 +33,9 @@ use Rattle.shard_calls.specs.declared.state.Act.TheVariants as acts
 use Rattle.shard_calls.specs.declared.state.CommandState.{CommandState}
 use Rattle.shard_calls.specs.Stands.{standing_of}
 use Rattle.shard_calls.specs.Outcomes.{Outcome, Answered, GivenUp, Sending, sendings}
-use Rattle.shard_calls.specs.Causes.{is_needed, is_promote, is_wait_told, is_promoted, is_told_so, is_given_up, is_stale, is_kept, is_short_of, is_some_of, came_to, came_to_in, says_taken, says_lost, says_intent, is_of_term, has_refusal_cause, has_planned_cause, has_command_cause, has_cause}
+use Rattle.shard_calls.specs.Causes.{is_needed, is_promote, is_wait_told, is_promoted, is_told_so, is_given_up, is_stale, is_kept, is_short_of, is_not_told, is_some_of, came_to, came_to_in, says_taken, says_lost, says_intent, is_of_term, has_refusal_cause, has_planned_cause, has_command_cause, has_cause}
 use Rattle.shard_calls.specs.Messages.{why_given_up}
-use Rattle.shard_calls.specs.World.{Config, World, numbered, open_command, term_in, term_of, is_eligible, may_be_promoted, is_eligible_alias}
+use Rattle.shard_calls.specs.World.{Config, World, numbered, open_command, term_in, term_of, may_be_promoted, is_eligible_alias}
 use Rattle.shard_calls.specs.Table.{meets}
 use Rattle.planned.specs.Leaving.{owes_release, leaving, unless_refused, or_else, first_by}
 use Rattle.planned.specs.Calls.{is_out, give_up_of, give_ups, once_settled, refusal_to, refusal_after}
@@ -123,28 +125,28 @@ no_refusal : (r : Refusal) → ◌≡◌ {A = Option Refusal} None (Some r) → 
 no_refusal r h = cc
 
 pub at_once : (config : Config) (a : Alias) (done : List Act) (sent : List Sending) (o : Option Tablet) (r : Refusal) → tablet_of config.tablets a ≡ o
-    → refusal_of a o ≡ Some r → has_refusal_cause config a done sent r ≡ true
+    → refusal_of config.policy a o ≡ Some r → has_refusal_cause config a done sent r ≡ true
 at_once config a done sent None r is h =
     subst (λ (v : Refusal). has_refusal_cause config a done sent v ≡ true) (one_refusal (refusals.NoSuchTablet a) r h)
     (both (alias_eq a a) (not (is_declared config.tablets a)) (alias_eq_itself a) (ap (λ (o : Option Tablet). not (is_some o)) is))
-at_once config a done sent (Some t) r is h = of_test (is_eligible t) refl h
+at_once config a done sent (Some t) r is h = of_test (is_eligible (rules_of config.policy) t) refl h
   where
-    of_test : (b : Bool) → is_eligible t ≡ b → cond b None (Some (refusals.NotEligible a bars.MustNot)) ≡ Some r → has_refusal_cause config a done sent r ≡ true
+    of_test : (b : Bool) → is_eligible (rules_of config.policy) t ≡ b → cond b None (Some (refusals.NotEligible a bars.MustNot)) ≡ Some r → has_refusal_cause config a done sent r ≡ true
     of_test true may k = absurd (no_refusal r k)
     of_test false may k =
         subst (λ (v : Refusal). has_refusal_cause config a done sent v ≡ true) (one_refusal (refusals.NotEligible a bars.MustNot) r k)
         (both (alias_eq a a && is_declared config.tablets a) (not (is_eligible_alias config a))
         (both (alias_eq a a) (is_declared config.tablets a) (alias_eq_itself a) (ap (λ (o : Option Tablet). is_some o) is))
-        (ap (λ (o : Option Tablet). not (may_be_promoted o)) is ∙ ap (λ (b : Bool). not b) may))
+        (ap (λ (o : Option Tablet). not (may_be_promoted config.policy o)) is ∙ ap (λ (b : Bool). not b) may))
 
-pub not_at_once : (config : Config) (a : Alias) (o : Option Tablet) → tablet_of config.tablets a ≡ o → refusal_of a o ≡ None
+pub not_at_once : (config : Config) (a : Alias) (o : Option Tablet) → tablet_of config.tablets a ≡ o → refusal_of config.policy a o ≡ None
     → (is_declared config.tablets a ≡ true) × (is_eligible_alias config a ≡ true)
 not_at_once config a None is h = absurd (no_refusal (refusals.NoSuchTablet a) (sym h))
-not_at_once config a (Some t) is h = of_test (is_eligible t) refl h
+not_at_once config a (Some t) is h = of_test (is_eligible (rules_of config.policy) t) refl h
   where
-    of_test : (b : Bool) → is_eligible t ≡ b → cond b None (Some (refusals.NotEligible a bars.MustNot)) ≡ None
+    of_test : (b : Bool) → is_eligible (rules_of config.policy) t ≡ b → cond b None (Some (refusals.NotEligible a bars.MustNot)) ≡ None
         → (is_declared config.tablets a ≡ true) × (is_eligible_alias config a ≡ true)
-    of_test true may k = (ap (λ (o : Option Tablet). is_some o) is, ap (λ (o : Option Tablet). may_be_promoted o) is ∙ may)
+    of_test true may k = (ap (λ (o : Option Tablet). is_some o) is, ap (λ (o : Option Tablet). may_be_promoted config.policy o) is ∙ may)
     of_test false may k = absurd (no_refusal (refusals.NotEligible a bars.MustNot) (sym k))
 
 -- ---- refusals by what it did
@@ -240,24 +242,31 @@ promote_alone (calls.Promote p) missing needed may = refl
 promote_alone (calls.SetSource source t p) missing needed may = absurd (false≢true needed)
 promote_alone (calls.WaitTold until) missing needed may = absurd (false≢true may)
 
+-- and only a WaitTold that its row is not told
+wait_alone : (call : Call) → is_needed call ≡ true → may_answer call says.NotTold ≡ true → is_wait_told call ≡ true
+wait_alone calls.Status needed may = absurd (false≢true needed)
+wait_alone calls.Stop needed may = absurd (false≢true needed)
+wait_alone calls.Demote needed may = absurd (false≢true needed)
+wait_alone (calls.Promote p) needed may = absurd (false≢true may)
+wait_alone (calls.SetSource source t p) needed may = absurd (false≢true needed)
+wait_alone (calls.WaitTold until) needed may = refl
+
 given_moment : (o : Option ℕ) → is_some o ≡ true → is_some_of o (unwrap_or o 0) ≡ true
 given_moment None h = absurd (false≢true h)
 given_moment (Some n) h = number_itself n
 
-short_here : (a : Alias) (sent : List Sending) (x : Sending) (missing : Position) → Needed a sent x → x.outcome ≡ Some (Answered (says.NotCaughtUp missing))
-    → list_any (λ s. is_promote s.call && alias_eq s.to x.to && is_short_of missing s.outcome && (s.sent == x.sent) && is_some_of s.arrived (unwrap_or x.arrived 0)) sent
-    ≡ true
-short_here a sent x missing n outcome =
-    let promote : is_promote x.call ≡ true = promote_alone x.call missing n.needed (n.fits (says.NotCaughtUp missing) outcome) in
-    let short : is_short_of missing x.outcome ≡ true = ap (λ (v : Option Outcome). is_short_of missing v) outcome ∙ position_itself missing in
-    let moment : is_some_of x.arrived (unwrap_or x.arrived 0) ≡ true = given_moment x.arrived (n.came (says.NotCaughtUp missing) outcome) in
+-- a call of a kind that was answered so was sent and came at its moments
+timed_here : (kind : Call → Bool) (test : Option Outcome → Bool) (answer : Answer) (a : Alias) (sent : List Sending) (x : Sending) → Needed a sent x
+    → x.outcome ≡ Some (Answered answer) → kind x.call ≡ true → test (Some (Answered answer)) ≡ true
+    → list_any (λ s. kind s.call && alias_eq s.to x.to && test s.outcome && (s.sent == x.sent) && is_some_of s.arrived (unwrap_or x.arrived 0)) sent ≡ true
+timed_here kind test answer a sent x n outcome is so =
     n.among
-    (λ s. is_promote s.call && alias_eq s.to x.to && is_short_of missing s.outcome && (s.sent == x.sent) && is_some_of s.arrived (unwrap_or x.arrived 0))
-    (both (is_promote x.call && alias_eq x.to x.to && is_short_of missing x.outcome && (x.sent == x.sent)) (is_some_of x.arrived (unwrap_or x.arrived 0))
-    (both (is_promote x.call && alias_eq x.to x.to && is_short_of missing x.outcome) (x.sent == x.sent)
-    (both (is_promote x.call && alias_eq x.to x.to) (is_short_of missing x.outcome)
-    (both (is_promote x.call) (alias_eq x.to x.to) promote (alias_eq_itself x.to)) short)
-    (number_itself x.sent)) moment)
+    (λ s. kind s.call && alias_eq s.to x.to && test s.outcome && (s.sent == x.sent) && is_some_of s.arrived (unwrap_or x.arrived 0))
+    (both (kind x.call && alias_eq x.to x.to && test x.outcome && (x.sent == x.sent)) (is_some_of x.arrived (unwrap_or x.arrived 0))
+    (both (kind x.call && alias_eq x.to x.to && test x.outcome) (x.sent == x.sent)
+    (both (kind x.call && alias_eq x.to x.to) (test x.outcome)
+    (both (kind x.call) (alias_eq x.to x.to) is (alias_eq_itself x.to)) (ap (λ (v : Option Outcome). test v) outcome ∙ so))
+    (number_itself x.sent)) (given_moment x.arrived (n.came answer outcome)))
 
 by_answer : (config : Config) (a : Alias) (done : List Act) (sent : List Sending) (x : Sending) (answer : Answer) (r : Refusal) → Needed a sent x
     → x.outcome ≡ Some (Answered answer) → refusal_to x answer ≡ Some r → has_refusal_cause config a done sent r ≡ true
@@ -267,6 +276,10 @@ by_answer config a done sent x (says.Demoted newest p) r n outcome h = absurd (n
 by_answer config a done sent x (says.Promoted p) r n outcome h = absurd (no_refusal r h)
 by_answer config a done sent x says.Joined r n outcome h = absurd (no_refusal r h)
 by_answer config a done sent x says.Told r n outcome h = absurd (no_refusal r h)
+by_answer config a done sent x says.NotTold r n outcome h =
+    subst (λ (v : Refusal). has_refusal_cause config a done sent v ≡ true)
+    (one_refusal (refusals.NotAcknowledged x.to (unackeds.NotTold x.sent (unwrap_or x.arrived 0))) r h)
+    (timed_here is_wait_told is_not_told says.NotTold a sent x n outcome (wait_alone x.call n.needed (n.fits says.NotTold outcome)) refl)
 by_answer config a done sent x (says.Kept stand) r n outcome h =
     subst (λ (v : Refusal). has_refusal_cause config a done sent v ≡ true) (one_refusal (refusals.NotAcknowledged x.to (unackeds.Kept (standing_of stand))) r h)
     (came_here is_needed (is_kept (standing_of stand)) sent x (Some (Answered (says.Kept stand))) n.among n.needed outcome (standing_itself (standing_of stand)))
@@ -276,7 +289,9 @@ by_answer config a done sent x (says.StaleTerm seen) r n outcome h =
 by_answer config a done sent x (says.PromisedAhead promised) r n outcome h = absurd (no_refusal r h)
 by_answer config a done sent x (says.NotCaughtUp missing) r n outcome h =
     subst (λ (v : Refusal). has_refusal_cause config a done sent v ≡ true)
-    (one_refusal (refusals.NotCaughtUp x.to missing x.sent (unwrap_or x.arrived 0)) r h) (short_here a sent x missing n outcome)
+    (one_refusal (refusals.NotCaughtUp x.to missing x.sent (unwrap_or x.arrived 0)) r h)
+    (timed_here is_promote (is_short_of missing) (says.NotCaughtUp missing) a sent x n outcome
+    (promote_alone x.call missing n.needed (n.fits (says.NotCaughtUp missing) outcome)) (position_itself missing))
 by_answer config a done sent x (says.Errant extra) r n outcome h = absurd (no_refusal r h)
 by_answer config a done sent x (says.NotStanding newest) r n outcome h = absurd (no_refusal r h)
 
@@ -297,6 +312,7 @@ promoted_says x (says.Demoted newest q) h p may = absurd (false≢true may)
 promoted_says x (says.Promoted q) h p may = refl
 promoted_says x says.Joined h p may = absurd (false≢true may)
 promoted_says x says.Told h p may = absurd (false≢true may)
+promoted_says x says.NotTold h p may = absurd (false≢true may)
 promoted_says x (says.Kept stand) h p may = absurd (no_refusal (refusals.NotAcknowledged x.to (unackeds.Kept (standing_of stand))) (sym h))
 promoted_says x (says.StaleTerm seen) h p may = absurd (no_refusal (refusals.StaleTerm x.to seen) (sym h))
 promoted_says x (says.PromisedAhead promised) h p may = absurd (false≢true may)
@@ -312,6 +328,7 @@ told_says x (says.Demoted newest q) h until may = absurd (false≢true may)
 told_says x (says.Promoted q) h until may = absurd (false≢true may)
 told_says x says.Joined h until may = absurd (false≢true may)
 told_says x says.Told h until may = refl
+told_says x says.NotTold h until may = absurd (no_refusal (refusals.NotAcknowledged x.to (unackeds.NotTold x.sent (unwrap_or x.arrived 0))) (sym h))
 told_says x (says.Kept stand) h until may = absurd (no_refusal (refusals.NotAcknowledged x.to (unackeds.Kept (standing_of stand))) (sym h))
 told_says x (says.StaleTerm seen) h until may = absurd (no_refusal (refusals.StaleTerm x.to seen) (sym h))
 told_says x (says.PromisedAhead promised) h until may = absurd (false≢true may)

@@ -28,7 +28,6 @@ use Rattle.shard_calls.specs.Locks.{by_term}
 use Rattle.shard_calls.specs.Messages.{link_of, is_cut, is_ready, may_arrive, is_received, answers_to, is_unanswered, why_unanswered, why_by, why_given_up}
 use Rattle.shard_calls.specs.Outcomes.{Outcome, Sending, sendings}
 use Rattle.shard_calls.specs.Stands.{is_down}
-use Rattle.shard_calls.specs.Tablets.{TabletState}
 use Rattle.shard_calls.specs.World.{Config, numbered, open_command}
 use Rattle.shard_state.specs.State.{Data, state_at, world_seen, seen}
 use Rattle.planned.specs.Calls.{called, next_to_ask, is_joining, is_out, give_up_of, give_ups, once_settled, refusal_after, position_given, left_out}
@@ -39,17 +38,17 @@ use Rattle.planned.specs.Writing.{place_of_write, written_next, write_next}
 
 -- ---- messages and giving up
 
-ready_past : (d : Data) (ss : List Step) (s : TabletState) (u : ℕ) (call : Call) → is_ready (world_seen d ss) s u call ≡ is_ready (seen d) s u call
-ready_past d ss s u calls.Status = refl
-ready_past d ss s u calls.Stop = refl
-ready_past d ss s u calls.Demote = refl
-ready_past d ss s u (calls.Promote p) = refl
-ready_past d ss s u (calls.SetSource source t p) = refl
-ready_past d ss s u (calls.WaitTold until) = refl
+ready_past : (d : Data) (ss : List Step) (a : Alias) (u : ℕ) (call : Call) → is_ready (world_seen d ss) a u call ≡ is_ready (seen d) a u call
+ready_past d ss a u calls.Status = refl
+ready_past d ss a u calls.Stop = refl
+ready_past d ss a u calls.Demote = refl
+ready_past d ss a u (calls.Promote p) = refl
+ready_past d ss a u (calls.SetSource source t p) = refl
+ready_past d ss a u (calls.WaitTold until) = refl
 
 received_past : (d : Data) (ss : List Step) (k : Content) → is_received (world_seen d ss) k ≡ is_received (seen d) k
 received_past d ss (contents.Asks command term to call) =
-    ap (λ (b : Bool). not (is_down (state_at d.managers to).stand) && b) (ready_past d ss (state_at d.managers to) term call)
+    ap (λ (b : Bool). not (is_down (state_at d.managers to).stand) && b) (ready_past d ss to term call)
 received_past d ss (contents.Answers command asked from says) = refl
 received_past d ss (contents.Feeds from to term after index e) = refl
 received_past d ss (contents.Acks from to term index) = refl
@@ -132,7 +131,7 @@ taken_past config d ss c s a t = λ i. cond (list_any is_read s.acts) (read_past
 planned_past : (config : Config) (d : Data) (ss : List Step) (c : ℕ) (s : CommandState) (a : Alias)
     → planned_next config (world_seen d ss) c s a ≡ planned_next config (seen d) c s a
 planned_past config d ss c s a =
-    λ i. unless_refused c s (refusal_of a (tablet_of config.tablets a))
+    λ i. unless_refused c s (refusal_of config.policy a (tablet_of config.tablets a))
     (unless_refused c s (first_by refusal_by s.acts) (by_term s.term (events.Take c ∷ []) (λ t. taken_past config d ss c s a t i)))
 
 -- ---- a write

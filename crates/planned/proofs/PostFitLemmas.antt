@@ -26,7 +26,8 @@ use Rattle.shard_calls.specs.declared.state.CommandState.{CommandState}
 use Rattle.shard_calls.specs.declared.why.Why.{Why}
 use Rattle.shard_calls.specs.Stands.{is_primary_of}
 use Rattle.shard_calls.specs.Logs.{has_row, position_of}
-use Rattle.shard_calls.specs.Tablets.{TabletState, Verdict, answer_to, promotes, waits_told}
+use Rattle.shard_calls.specs.Groups.{Group}
+use Rattle.shard_calls.specs.Tablets.{TabletState, Verdict, answer_to, is_row_told, promotes, waits_told}
 use Rattle.shard_calls.specs.World.{Config, World, numbered, changed, changed_at, on_message, arrives, vanishes, settles, open_command, term_of}
 use Rattle.shard_calls.specs.Messages.{Indexed, may_feed, needed, feed_of, offered_by, offer_to, why_given_up}
 use Rattle.shard_calls.specs.Begins.{ends_by}
@@ -48,21 +49,22 @@ either_answer P true x y here there = here
 either_answer P false x y here there = there
 
 -- a tablet answers a call as it may be answered
-pub answer_fits : (me : Tablet) (u : ℕ) (call : Call) (s : TabletState) → may_answer call (answer_to me u call s) ≡ true
-answer_fits me u calls.Status s = refl
-answer_fits me u calls.Stop s = refl
-answer_fits me u calls.Demote s = refl
-answer_fits me u (calls.Promote p) s =
+pub answer_fits : (g : Group) (me : Tablet) (u : ℕ) (call : Call) (s : TabletState) → may_answer call (answer_to g me u call s) ≡ true
+answer_fits g me u calls.Status s = refl
+answer_fits g me u calls.Stop s = refl
+answer_fits g me u calls.Demote s = refl
+answer_fits g me u (calls.Promote p) s =
     let seen : TabletState = record s { seen = u } in
     either_holds (λ v. answers_promote v.says ≡ true) (nat_lt u s.seen) (record { state = s; says = says.StaleTerm s.seen }) (promotes me u p seen) refl
     (either_holds (λ v. answers_promote v.says ≡ true) (has_row s.log u) _ _
     (either_answer (λ x. answers_promote x ≡ true) (is_primary_of s.stand u) (says.Promoted (position_of s.log)) (says.Kept s.stand) refl refl)
     (either_holds (λ v. answers_promote v.says ≡ true) (covers (position_of s.log) p) _ _ refl refl))
-answer_fits me u (calls.SetSource source t p) s = refl
-answer_fits me u (calls.WaitTold until) s =
+answer_fits g me u (calls.SetSource source t p) s = refl
+answer_fits g me u (calls.WaitTold until) s =
     let seen : TabletState = record s { seen = u } in
-    either_holds (λ v. answers_wait v.says ≡ true) (nat_lt u s.seen) (record { state = s; says = says.StaleTerm s.seen }) (waits_told u seen) refl
-    (either_answer (λ x. answers_wait x ≡ true) (is_primary_of s.stand u) says.Told (says.Kept s.stand) refl refl)
+    either_holds (λ v. answers_wait v.says ≡ true) (nat_lt u s.seen) (record { state = s; says = says.StaleTerm s.seen }) (waits_told g me u seen) refl
+    (either_answer (λ x. answers_wait x ≡ true) (is_primary_of s.stand u) (cond (is_row_told g me seen u) says.Told says.NotTold) (says.Kept s.stand)
+    (either_answer (λ x. answers_wait x ≡ true) (is_row_told g me seen u) says.Told says.NotTold refl refl) refl)
 
 -- ---- messages that stay
 
@@ -223,7 +225,7 @@ asked_fit w k c u a call None m here carries fits = arrived_fit w k fits
 asked_fit w k c u a call (Some me) m here carries fits =
     longer_fit (changed_at w.post k (arrives w.clock)) _ refl (λ d n b x is. grounds d n b x is) (arrived_fit w k fits)
   where
-    it : IsAsked (changed_at w.post k (arrives w.clock)) k (answer_to me u call (w.tablets a))
+    it : IsAsked (changed_at w.post k (arrives w.clock)) k (answer_to w.group me u call (w.tablets a))
     it = record {
       message = arrives w.clock m;
       command = c;
@@ -233,13 +235,13 @@ asked_fit w k c u a call (Some me) m here carries fits =
       here = numbered_here w.post k (arrives w.clock) m here;
       carries = carries;
       came = refl;
-      fits = answer_fits me u call (w.tablets a);
+      fits = answer_fits w.group me u call (w.tablets a);
     }
 
-    grounds : (d n : ℕ) (b : Alias) (x : Answer) → contents.Answers c k a (answer_to me u call (w.tablets a)) ≡ contents.Answers d n b x
+    grounds : (d n : ℕ) (b : Alias) (x : Answer) → contents.Answers c k a (answer_to w.group me u call (w.tablets a)) ≡ contents.Answers d n b x
         → IsAsked (changed_at w.post k (arrives w.clock)) n x
     grounds d n b x is =
-        let same = one_answer c d k n a b (answer_to me u call (w.tablets a)) x is in
+        let same = one_answer c d k n a b (answer_to w.group me u call (w.tablets a)) x is in
         subst (λ (i : ℕ). IsAsked (changed_at w.post k (arrives w.clock)) i x) same.0
         (subst (λ (y : Answer). IsAsked (changed_at w.post k (arrives w.clock)) k y) same.1 it)
 

@@ -8,6 +8,7 @@ use Rattle.shard_names.specs.Tablets.{tablet_of, is_declared}
 use Rattle.shard_names.proofs.TabletLemmas.{both_right}
 use Rattle.shard_names.specs.declared.alias.Alias.{Alias}
 use Rattle.shard_names.specs.declared.tablet.Tablet.{Tablet}
+use Rattle.durability.specs.declared.policy.Durability.{Durability}
 use Rattle.topo_lock.specs.Topology.{Topology, is_held, is_held_in, last_of, last_intent, adds_intent, record_of, after_intend, after_record, after_release, after_lapse}
 use Rattle.topo_lock.specs.Moves.{Rests}
 use Rattle.topo_lock.specs.declared.intent.Intent.{Intent}
@@ -93,9 +94,9 @@ release_declared : (config : Config) (topo : Topology) (t : ℕ) → TopoDeclare
 release_declared config topo t h = declared_if config (is_held_in topo t) _ topo (same_declared config topo _ refl refl h) h
 
 -- who may be promoted is declared
-eligible_declared : (o : Option Tablet) → may_be_promoted o ≡ true → is_some o ≡ true
-eligible_declared None h = absurd (false≢true h)
-eligible_declared (Some t) h = refl
+eligible_declared : (policy : Durability) (o : Option Tablet) → may_be_promoted policy o ≡ true → is_some o ≡ true
+eligible_declared policy None h = absurd (false≢true h)
+eligible_declared policy (Some t) h = refl
 
 topo_as : (config : Config) (s t : Topology) → t ≡ s → TopoDeclared config s → TopoDeclared config t
 topo_as config s t same h = subst (λ (x : Topology). TopoDeclared config x) (sym same) h
@@ -124,7 +125,7 @@ topo_after config w (events.Intend c a) met h =
     declared_by config w (intends_in w c a) (term_of w c) h
     (λ t.
     intend_declared config w.topo t a
-    (eligible_declared (tablet_of config.tablets a) (both_right (is_some (term_of w c)) (is_eligible_alias config a) met)) h)
+    (eligible_declared config.policy (tablet_of config.tablets a) (both_right (is_some (term_of w c)) (is_eligible_alias config a) met)) h)
 topo_after config w (events.Record c a) met h = declared_by config w (records_in w c a) (term_of w c) h (λ t. record_declared config w.topo t w.clock h)
 topo_after config w (events.Release c) met h = declared_by config w (releases_in w c) (term_of w c) h (λ t. release_declared config w.topo t h)
 topo_after config w events.Lapse met h = same_declared config w.topo (after_lapse w.topo) refl refl h

@@ -279,7 +279,7 @@ by_term_met config w c s a (Some t) g known declared eligible none is =
 pub planned_met : (config : Config) (w : World) (c : ℕ) (s : CommandState) (a : Alias) → Goes config w c s a → IsReached config w
     → AllMet config w (planned_next config w c s a)
 planned_met config w c s a g known =
-    unless_met config w c s a (refusal_of a (tablet_of config.tablets a))
+    unless_met config w c s a (refusal_of config.policy a (tablet_of config.tablets a))
     (unless_refused c s (first_by refusal_by s.acts) (by_term s.term (events.Take c ∷ []) (taken_next config w c s a))) g
     (λ r refused. at_once config a s.acts (sendings w.post s.acts) (tablet_of config.tablets a) r refl refused)
     (λ none.

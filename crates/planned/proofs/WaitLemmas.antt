@@ -131,7 +131,7 @@ by_term_waits config w c s a (Some t) h = taken_waits config w c s a t h
 
 planned_waits : (config : Config) (w : World) (c : ℕ) (s : CommandState) (a : Alias) → planned_next config w c s a ≡ [] → Unsettled w s
 planned_waits config w c s a h =
-    unless_waits c s (refusal_of a (tablet_of config.tablets a))
+    unless_waits c s (refusal_of config.policy a (tablet_of config.tablets a))
     (unless_refused c s (first_by refusal_by s.acts) (by_term s.term (events.Take c ∷ []) (taken_next config w c s a))) h
     (λ k.
     unless_waits c s (first_by refusal_by s.acts) (by_term s.term (events.Take c ∷ []) (taken_next config w c s a)) k

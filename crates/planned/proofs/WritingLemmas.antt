@@ -22,8 +22,8 @@ use Rattle.shard_calls.specs.declared.state.CommandState.{CommandState}
 use Rattle.shard_calls.specs.declared.state.Shown.{Shown}
 use Rattle.shard_calls.specs.declared.state.Wrote.{Wrote}
 use Rattle.shard_calls.specs.Stands.{is_primary_of, standing_of}
-use Rattle.shard_calls.specs.Tablets.{TabletState, is_told}
 use Rattle.shard_calls.specs.Causes.{position_eq, standing_eq, wrote_this, is_told_act, says_not_primary, showed, has_command_cause}
+use Rattle.shard_calls.specs.Messages.{is_told_at}
 use Rattle.shard_calls.specs.Writes.{is_write, may_write, tell_reply, tell_of}
 use Rattle.shard_calls.specs.World.{Config, World, numbered, open_command}
 use Rattle.planned.specs.Leaving.{leaving, first_by}
@@ -82,19 +82,19 @@ wrote_itself o x is =
     (both (gtid_eq x.gtid x.gtid) (alias_eq x.alias x.alias) (gtid_eq_itself x.gtid) (alias_eq_itself x.alias)) (number_itself x.term)
 
 -- where what was written is gone, the tablet is not the primary of its term
-gone_stands : (t : TabletState) (x : Wrote) (r : Reply) (b : Bool) → is_gone r ≡ true → cond b (only_if (is_told t x.index) replies.Told) (Some replies.Gone) ≡ Some r
+gone_stands : (told : Bool) (r : Reply) (b : Bool) → is_gone r ≡ true → cond b (only_if told replies.Told) (Some replies.Gone) ≡ Some r
     → not b ≡ true
-gone_stands t x r false gone h = refl
-gone_stands t x r true gone h = of_test (is_told t x.index) h
+gone_stands told r false gone h = refl
+gone_stands told r true gone h = of_test told h
   where
     of_test : (d : Bool) → only_if d replies.Told ≡ Some r → not true ≡ true
     of_test true k = absurd (false≢true (ap (λ (v : Reply). is_gone v) (let same : replies.Told ≡ r = cc in same) ∙ gone))
     of_test false k = absurd (let none : ◌≡◌ {A = Option Reply} None (Some r) = k in cc)
 
-told_by : (w : World) (c : ℕ) (s : CommandState) (x : Wrote) → open_command w c ≡ Some s → s.wrote ≡ Some x → tell_of w c ≡ tell_reply (w.tablets x.alias) x
+told_by : (w : World) (c : ℕ) (s : CommandState) (x : Wrote) → open_command w c ≡ Some s → s.wrote ≡ Some x → tell_of w c ≡ tell_reply w x
 told_by w c s x found is =
-    ap (λ (o : Option CommandState). o >>= (λ v. v.wrote >>= (λ y. tell_reply (w.tablets y.alias) y))) (open_numbered (numbered w.commands c) s found)
-    ∙ ap (λ (o : Option Wrote). o >>= (λ y. tell_reply (w.tablets y.alias) y)) is
+    ap (λ (o : Option CommandState). o >>= (λ v. v.wrote >>= (λ y. tell_reply w y))) (open_numbered (numbered w.commands c) s found)
+    ∙ ap (λ (o : Option Wrote). o >>= (λ y. tell_reply w y)) is
 
 untold_met : (config : Config) (w : World) (c : ℕ) (s : CommandState) (to : Option Alias) (x : Wrote) (o : Option Reply) → IsWriting config w c s to
     → s.wrote ≡ Some x → list_any is_told_act s.acts ≡ false → tell_of w c ≡ o → AllMet config w (untold_next c s x o)
@@ -109,7 +109,7 @@ untold_met config w c s to x (Some r) h is untold tells = of_gone (is_gone r) re
         leaves_writing config w c s to (answers.Unknown x.gtid x.alias x.term) h
         (both (wrote_this s.wrote x.gtid x.alias x.term && not (list_any is_told_act s.acts)) (not (is_primary_of (w.tablets x.alias).stand x.term))
         (both (wrote_this s.wrote x.gtid x.alias x.term) (not (list_any is_told_act s.acts)) (wrote_itself s.wrote x is) (ap (λ (b : Bool). not b) untold))
-        (gone_stands (w.tablets x.alias) x r (is_primary_of (w.tablets x.alias).stand x.term) gone (sym (told_by w c s x h.found is) ∙ tells)))
+        (gone_stands (is_told_at w x.alias x.index) r (is_primary_of (w.tablets x.alias).stand x.term) gone (sym (told_by w c s x h.found is) ∙ tells)))
     of_found false gone = may_tell
 
     of_gone : (b : Bool) → is_gone r ≡ b

@@ -85,6 +85,7 @@ refusal_to x (says.Demoted newest p) = None
 refusal_to x (says.Promoted p) = None
 refusal_to x says.Joined = None
 refusal_to x says.Told = None
+refusal_to x says.NotTold = Some (refusals.NotAcknowledged x.to (unackeds.NotTold x.sent (unwrap_or x.arrived 0)))
 refusal_to x (says.Kept stand) = Some (refusals.NotAcknowledged x.to (unackeds.Kept (standing_of stand)))
 refusal_to x (says.StaleTerm seen) = Some (refusals.StaleTerm x.to seen)
 refusal_to x (says.PromisedAhead promised) = None

@@ -1,4 +1,4 @@
--- The events of commands that keep to their courses.
+-- The events of commands that keep to their courses. The commands are those of vtctldclient (Vitess manual).
 use Rattle.std.specs.Prelude.{◌≡◌, ℕ, List, [], ◌∷◌, Option, Some, None, slice_get, ⊤}
 use Rattle.std.specs.List.{AllByRecursion}
 use Rattle.shard_calls.specs.declared.event.Event.{Event}

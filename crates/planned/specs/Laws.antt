@@ -1,5 +1,5 @@
 -- The laws of courses: in every history, whatever the commands did before, what a command may do next can be done; and a command that may do
--- nothing waits.
+-- nothing waits. The commands are those of vtctldclient (Vitess manual).
 use Rattle.std.specs.Prelude.{◌≡◌, ℕ, Bool, List, [], Some, None, is_none, nat_lt, IsTrue}
 use Rattle.std.specs.List.{list_any, AllByRecursion}
 use Rattle.shard_calls.specs.declared.event.Event.{Event}

@@ -7,6 +7,9 @@ use Rattle.shard_names.specs.Tablets.{tablet_of}
 use Rattle.shard_names.specs.declared.alias.Alias.{Alias}
 use Rattle.shard_names.specs.declared.tablet.Tablet.{Tablet}
 use Rattle.gtid_sets.specs.Position.{Position, nothing}
+use Rattle.durability.specs.declared.policy.Durability.{Durability}
+use Rattle.durability.specs.Rules.{is_eligible}
+use Rattle.durability.specs.Policies.{rules_of}
 use Rattle.topo_lock.specs.declared.intent.Intent.{Intent}
 use Rattle.shard_calls.specs.declared.call.Call.TheVariants as calls
 use Rattle.shard_calls.specs.declared.command.CommandAnswer.TheVariants as answers
@@ -23,16 +26,16 @@ use Rattle.shard_calls.specs.Causes.{is_promote, is_wait_told, says_recorded}
 use Rattle.shard_calls.specs.Evidence.{intends}
 use Rattle.shard_calls.specs.Locks.{by_term}
 use Rattle.shard_calls.specs.Messages.{timeout_of}
-use Rattle.shard_calls.specs.World.{Config, World, is_eligible}
+use Rattle.shard_calls.specs.World.{Config, World}
 use Rattle.planned.specs.Leaving.{leaving, unless_refused, first_by}
 use Rattle.planned.specs.Calls.{called, next_to_ask, is_joining, give_ups, once_settled, refusal_after, position_given, left_out}
 
 -- ---- refusals
 
--- at once: the tablet is not declared, or may not be promoted
-abbrev pub refusal_of : Alias → Option Tablet → Option Refusal
-refusal_of a None = Some (refusals.NoSuchTablet a)
-refusal_of a (Some t) = if is_eligible t then None else Some (refusals.NotEligible a bars.MustNot)
+-- at once: the tablet is not declared, or the policy does not let it be promoted
+abbrev pub refusal_of : Durability → Alias → Option Tablet → Option Refusal
+refusal_of policy a None = Some (refusals.NoSuchTablet a)
+refusal_of policy a (Some t) = if is_eligible (rules_of policy) t then None else Some (refusals.NotEligible a bars.MustNot)
 
 -- where a term intends something already
 abbrev pub refusal_by_intent : Option Intent → Option Refusal
@@ -102,5 +105,5 @@ taken_next config w c s a t = if list_any is_read s.acts then read_next config w
 -- unless it is refused, it takes the lock
 abbrev pub planned_next : Config → World → ℕ → CommandState → Alias → List Event
 planned_next config w c s a =
-    unless_refused c s (refusal_of a (tablet_of config.tablets a))
+    unless_refused c s (refusal_of config.policy a (tablet_of config.tablets a))
     (unless_refused c s (first_by refusal_by s.acts) (by_term s.term (events.Take c ∷ []) (taken_next config w c s a)))

@@ -1,7 +1,7 @@
 -- The next step alone, by the acts and messages as a shard keeps them.
-use Rattle.std.specs.Prelude.{ℕ, Bool, false, ◌&&◌, is_some, List, [], ◌∷◌, Option, Some, None}
+use Rattle.std.specs.Prelude.{ℕ, Bool, false, ◌&&◌, is_some, List, [], ◌∷◌, Option, Some, None, if◌then◌else◌}
 use Rattle.std.specs.List.{find}
-use Rattle.shard_base.specs.Options.{◌>>=◌}
+use Rattle.shard_base.specs.Options.{◌>>=◌, only_if}
 use Rattle.shard_names.specs.Tablets.{alias_eq}
 use Rattle.shard_names.specs.declared.alias.Alias.{Alias}
 use Rattle.gtid_sets.specs.Position.{Position, nothing}
@@ -12,6 +12,8 @@ use Rattle.shard_calls.specs.declared.command.Left.{Left}
 use Rattle.shard_calls.specs.declared.command.NotJoined.{NotJoined}
 use Rattle.shard_calls.specs.declared.command.Refusal.{Refusal}
 use Rattle.shard_calls.specs.declared.event.Event.{Event}
+use Rattle.shard_calls.specs.declared.event.Reply.{Reply}
+use Rattle.shard_calls.specs.declared.event.Reply.TheVariants as replies
 use Rattle.shard_calls.specs.declared.post.Content.{Content}
 use Rattle.shard_calls.specs.declared.post.Content.TheVariants as contents
 use Rattle.shard_calls.specs.declared.post.Message.{Message}
@@ -19,11 +21,15 @@ use Rattle.shard_calls.specs.declared.post.Settled.{Settled}
 use Rattle.shard_calls.specs.declared.post.Settled.TheVariants as settleds
 use Rattle.shard_calls.specs.declared.state.Act.{Act}
 use Rattle.shard_calls.specs.declared.state.Act.TheVariants as acts
+use Rattle.shard_calls.specs.declared.state.Wrote.{Wrote}
 use Rattle.shard_calls.specs.declared.why.Why.{Why}
 use Rattle.shard_calls.specs.Causes.{is_promote, is_wait_told, is_set_source, not_joined}
 use Rattle.shard_calls.specs.Outcomes.{Outcome, Answered, GivenUp, Sending, answer_in, outcome_of, sending_by}
 use Rattle.shard_calls.specs.World.{World, numbered}
 use Rattle.shard_calls.specs.Messages.{passes}
+use Rattle.shard_calls.specs.Stands.{is_primary_of}
+use Rattle.shard_calls.specs.Tablets.{is_told}
+use Rattle.tablet_manager.specs.Managed.{Managed, state_of}
 use Rattle.planned.specs.Calls.{give_up_of, position_given, refusal_after, is_joining}
 use Rattle.planned.specs.declared.calls.Kind.{Kind}
 use Rattle.planned.specs.declared.calls.Kind.TheVariants as kinds
@@ -135,3 +141,9 @@ first_given w c o = o >>= give_up_of w c
 -- whether the call that an act sent may be given up
 abbrev pub gives_up : World → ℕ → Act → Bool
 gives_up w c act = is_some (give_up_of w c act)
+
+-- ---- what was written
+
+-- what the tablet that has this manager says of it, if it can
+abbrev pub tell_by : Managed → Wrote → Option Reply
+tell_by m x = if is_primary_of m.stand x.term then only_if (is_told m.group m.me (state_of m) x.index) replies.Told else Some replies.Gone

@@ -1,6 +1,6 @@
 ghost use Rattle.std.specs.Prelude.{◌≡◌, ◌<◌, List, IfOk};
 ghost use Rattle.shard_calls.specs.declared.event.Step.{Step};
-ghost use Rattle.shard_state.specs.State.{data_of, config_in, seen, world_seen};
+ghost use Rattle.shard_state.specs.State.{data_of, config_in, seen, world_seen, AreOfGroup};
 ghost use Rattle.planned.specs.Course.{command_next, first_of, next};
 
 use crate::reparent::planned_next;
@@ -17,6 +17,7 @@ fn command_next(
     command: u64,
     state: &CommandState,
 ) -> Result<Option<Event>, OutOfMemory>
+    requires group { AreOfGroup (data_of fields.now) }
     requires time { fields.now.clock < 253370764800000 }
     ensures { IfOk result (λ event. event ≡ first_of (command_next (config_in (data_of fields.now)) (seen (data_of fields.now)) command state.now state.now.command)) }
 {
@@ -30,6 +31,7 @@ fn command_next(
 }
 
 fn next_seen(alloc: Global, fields: &Fields, command: u64) -> Result<Option<Event>, OutOfMemory>
+    requires group { AreOfGroup (data_of fields.now) }
     requires time { fields.now.clock < 253370764800000 }
     ensures { IfOk result (λ event. event ≡ next (config_in (data_of fields.now)) (seen (data_of fields.now)) command) }
 {
@@ -45,6 +47,7 @@ fn next_seen(alloc: Global, fields: &Fields, command: u64) -> Result<Option<Even
 /// The only error is want of memory. It costs some walks over the command's acts, and a few steps for each answer to its calls.
 #[tactic(auto, using(crate::proofs::PastLemmas::next_by_seen))]
 pub fn next(alloc: Global, fields: &Fields, command: u64) -> Result<Option<Event>, OutOfMemory>
+    requires group { AreOfGroup (data_of fields.now) }
     requires time { fields.now.clock < 253370764800000 }
     ensures { (steps : List Step) → IfOk result (λ event. event ≡ next (config_in (data_of fields.now)) (world_seen (data_of fields.now) steps) command) }
 {

@@ -1,36 +1,30 @@
 //! Why a reparent is refused: at once, by what it did, and by what the calls that it needs came to.
 
 ghost use Rattle.std.specs.Prelude.{◌≡◌, IfOk};
-ghost use Rattle.shard_calls.specs.World.{is_eligible};
 ghost use Rattle.planned.specs.Leaving.{first_by};
 ghost use Rattle.planned.specs.Calls.{refusal_to};
 ghost use Rattle.planned.specs.Reparent.{refusal_of, refusal_by_intent, refusal_by};
 ghost use Rattle.planned.specs.Steps.{call_to};
 
+use durability::{Durability, is_eligible};
 use post::Post;
 use shard_base::OutOfMemory;
 use shard_calls::{Act, Answer, Bar, Message, Refusal, Unacked};
-use shard_names::{Alias, Tablet, TabletType};
+use shard_names::{Alias, Tablet};
 use topo_lock::Intent;
 
-fn is_eligible(tablet: &Tablet) -> bool
-    ensures { result ≡ is_eligible tablet.now }
-{
-    match tablet.kind {
-        TabletType::Replica => true,
-        TabletType::Rdonly => false,
-        TabletType::Spare => false,
-    }
-}
-
-/// At once: the tablet is not declared, or may not be promoted.
-pub(crate) fn refusal_of(alias: &Alias, tablet: &Option<Tablet>) -> Option<Refusal>
-    ensures { result ≡ refusal_of alias.now tablet.now }
+/// At once: the tablet is not declared, or the policy does not let it be promoted.
+pub(crate) fn refusal_of(
+    policy: &Durability,
+    alias: &Alias,
+    tablet: &Option<Tablet>,
+) -> Option<Refusal>
+    ensures { result ≡ refusal_of policy.now alias.now tablet.now }
 {
     match tablet {
         None => Some(Refusal::NoSuchTablet { alias: *alias }),
         Some(tablet) => {
-            if is_eligible(tablet) {
+            if is_eligible(policy, tablet) {
                 return None;
             }
             Some(Refusal::NotEligible {
@@ -96,6 +90,12 @@ pub(crate) fn refusal_to(
     let _ = post;
     let alias = *alias;
     match answer {
+        Answer::NotTold => {
+            let since = message.sent;
+            let now = message.arrived.unwrap_or(0);
+            let cause = Unacked::NotTold { since, now };
+            Ok(Some(Refusal::NotAcknowledged { alias, cause }))
+        }
         Answer::Kept { stand } => {
             let stand = stand.standing();
             let cause = Unacked::Kept { stand };

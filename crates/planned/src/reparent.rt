@@ -5,7 +5,7 @@ ghost use Rattle.std.specs.Option.{option_copied};
 ghost use Rattle.std.specs.List.{find};
 ghost use Rattle.shard_calls.specs.Causes.{is_promote, is_wait_told};
 ghost use Rattle.shard_calls.specs.Outcomes.{sendings};
-ghost use Rattle.shard_state.specs.State.{seen, data_of, config_in, tablets_of};
+ghost use Rattle.shard_state.specs.State.{seen, data_of, config_in, tablets_of, AreOfGroup};
 ghost use Rattle.planned.specs.Calls.{called, is_unasked, next_to_ask, left_out};
 ghost use Rattle.planned.specs.Course.{first_of};
 ghost use Rattle.planned.specs.Leaving.{leaving};
@@ -63,6 +63,7 @@ fn told_by(
     term: u64,
     message: &Message,
 ) -> Result<Option<Event>, OutOfMemory>
+    requires group { AreOfGroup (data_of fields.now) }
     ensures { IfOk result (λ event. event ≡ first_of (told_next (seen (data_of fields.now)) command state.now alias.now term (Some (call_to alias.now fields.now.post.messages message.now)))) }
 {
     match came_to(&fields.post, alias, message)? {
@@ -99,6 +100,7 @@ fn told_next(
     alias: &Alias,
     term: u64,
 ) -> Result<Option<Event>, OutOfMemory>
+    requires group { AreOfGroup (data_of fields.now) }
     requires time { fields.now.clock < 253370764800000 }
     ensures { IfOk result (λ event. event ≡ first_of (told_next (seen (data_of fields.now)) command state.now alias.now term (called is_wait_told alias.now (sendings fields.now.post.messages state.now.acts)))) }
 {
@@ -117,6 +119,7 @@ fn joined_next(
     alias: &Alias,
     term: u64,
 ) -> Result<Option<Event>, OutOfMemory>
+    requires group { AreOfGroup (data_of fields.now) }
     requires time { fields.now.clock < 253370764800000 }
     ensures { IfOk result (λ event. event ≡ first_of (joined_next (seen (data_of fields.now)) command state.now alias.now term (sendings fields.now.post.messages state.now.acts))) }
 {
@@ -172,6 +175,7 @@ fn asked_next(
     term: u64,
     position: GtidSet,
 ) -> Result<Option<Event>, OutOfMemory>
+    requires group { AreOfGroup (data_of fields.now) }
     requires time { fields.now.clock < 253370764800000 }
     ensures { IfOk result (λ event. event ≡ first_of (asked_next (seen (data_of fields.now)) command state.now alias.now term position (sendings fields.now.post.messages state.now.acts) (next_to_ask (config_in (data_of fields.now)).tablets alias.now (sendings fields.now.post.messages state.now.acts)))) }
 {
@@ -202,6 +206,7 @@ fn promoted_next(
     term: u64,
     position: GtidSet,
 ) -> Result<Option<Event>, OutOfMemory>
+    requires group { AreOfGroup (data_of fields.now) }
     requires time { fields.now.clock < 253370764800000 }
     ensures { IfOk result (λ event. event ≡ first_of (promoted_next (config_in (data_of fields.now)) (seen (data_of fields.now)) command state.now alias.now term position (sendings fields.now.post.messages state.now.acts))) }
 {
@@ -222,6 +227,7 @@ fn intended_by(
     term: u64,
     message: &Message,
 ) -> Result<Option<Event>, OutOfMemory>
+    requires group { AreOfGroup (data_of fields.now) }
     requires time { fields.now.clock < 253370764800000 }
     ensures { IfOk result (λ event. event ≡ first_of (intended_next (config_in (data_of fields.now)) (seen (data_of fields.now)) command state.now alias.now term (sendings fields.now.post.messages state.now.acts) (Some (call_to alias.now fields.now.post.messages message.now)))) }
 {
@@ -258,6 +264,7 @@ fn intended_next(
     alias: &Alias,
     term: u64,
 ) -> Result<Option<Event>, OutOfMemory>
+    requires group { AreOfGroup (data_of fields.now) }
     requires time { fields.now.clock < 253370764800000 }
     ensures { IfOk result (λ event. event ≡ first_of (intended_next (config_in (data_of fields.now)) (seen (data_of fields.now)) command state.now alias.now term (sendings fields.now.post.messages state.now.acts) (called is_promote alias.now (sendings fields.now.post.messages state.now.acts)))) }
 {
@@ -276,6 +283,7 @@ fn taken_next(
     alias: &Alias,
     term: u64,
 ) -> Result<Option<Event>, OutOfMemory>
+    requires group { AreOfGroup (data_of fields.now) }
     requires time { fields.now.clock < 253370764800000 }
     ensures { IfOk result (λ event. event ≡ first_of (taken_next (config_in (data_of fields.now)) (seen (data_of fields.now)) command state.now alias.now term)) }
 {
@@ -297,11 +305,12 @@ pub(crate) fn planned_next(
     state: &CommandState,
     alias: &Alias,
 ) -> Result<Option<Event>, OutOfMemory>
+    requires group { AreOfGroup (data_of fields.now) }
     requires time { fields.now.clock < 253370764800000 }
     ensures { IfOk result (λ event. event ≡ first_of (planned_next (config_in (data_of fields.now)) (seen (data_of fields.now)) command state.now alias.now)) }
 {
     let tablet = tablet_of(&fields.managers, alias);
-    if let Some(refusal) = refusal_of(alias, &tablet) {
+    if let Some(refusal) = refusal_of(&fields.policy, alias, &tablet) {
         return Ok(Some(refusing(command, state, refusal)));
     }
     if let Some(refusal) = refusal_by_acts(state.acts.as_slice()) {

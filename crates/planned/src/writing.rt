@@ -6,11 +6,11 @@ ghost use Rattle.shard_calls.specs.declared.command.CommandAnswer.TheVariants as
 ghost use Rattle.shard_calls.specs.Stands.{standing_of};
 ghost use Rattle.shard_calls.specs.World.{numbered};
 ghost use Rattle.shard_calls.specs.Writes.{tell_reply, tell_of};
-ghost use Rattle.shard_state.specs.State.{data_of, seen, state_at};
+ghost use Rattle.shard_state.specs.State.{data_of, seen, AreOfGroup};
 ghost use Rattle.planned.specs.Course.{first_of};
 ghost use Rattle.planned.specs.Leaving.{leaving, first_by};
-ghost use Rattle.tablet_manager.specs.Managed.{state_of};
-ghost use Rattle.planned.specs.Writing.{place_of_write, not_written, is_gone, unwritten_next, untold_next, written_next, write_next, show_next};
+ghost use Rattle.planned.specs.Steps.{tell_by};
+ghost use Rattle.planned.specs.Writing.{place_of_write, not_written, unwritten_next, untold_next, written_next, write_next, show_next};
 
 use crate::acts::{found_gone, was_told};
 use crate::leaving::leaving;
@@ -78,8 +78,9 @@ fn unwritten_next(command: u64, state: &CommandState, alias: &Alias) -> Option<E
     }
 }
 
+/// What the tablet that has this manager says of what was written, if it can.
 fn tell_at(manager: &Manager, wrote: &Wrote) -> Option<Reply>
-    ensures { result ≡ tell_reply (state_of manager.now) wrote.now }
+    ensures { result ≡ tell_by manager.now wrote.now }
 {
     if !manager.stand().is_primary_of(wrote.term) {
         return Some(Reply::Gone);
@@ -91,7 +92,8 @@ fn tell_at(manager: &Manager, wrote: &Wrote) -> Option<Reply>
 }
 
 fn tell_reply(fields: &Fields, wrote: &Wrote) -> Option<Reply>
-    ensures { result ≡ tell_reply (state_at fields.now.managers.items wrote.now.alias) wrote.now }
+    requires group { AreOfGroup (data_of fields.now) }
+    ensures { result ≡ tell_reply (seen (data_of fields.now)) wrote.now }
 {
     match manager_of(&fields.managers, &wrote.alias) {
         Some(manager) => tell_at(manager, wrote),
@@ -108,6 +110,7 @@ fn command_of(commands: &[CommandState], number: u64) -> Option<&CommandState>
 
 /// What the command would be told of its entry, if that can be said.
 fn tell_of(fields: &Fields, command: u64) -> Option<Reply>
+    requires group { AreOfGroup (data_of fields.now) }
     ensures { result ≡ tell_of (seen (data_of fields.now)) command }
 {
     match command_of(&fields.commands, command) {
@@ -119,18 +122,13 @@ fn tell_of(fields: &Fields, command: u64) -> Option<Reply>
     }
 }
 
-fn is_gone(reply: &Reply) -> bool
-    ensures { result ≡ is_gone reply.now }
-{
-    matches!(reply, Reply::Gone)
-}
-
 /// It looks whether what it wrote counts as committed, and where that can be said no more it leaves.
 fn untold_next(fields: &Fields, command: u64, state: &CommandState, wrote: &Wrote) -> Option<Event>
+    requires group { AreOfGroup (data_of fields.now) }
     ensures { result ≡ first_of (untold_next command state.now wrote.now (tell_of (seen (data_of fields.now)) command)) }
 {
     let reply = tell_of(fields, command)?;
-    if is_gone(&reply) && found_gone(state.acts.as_slice()) {
+    if matches!(reply, Reply::Gone) && found_gone(state.acts.as_slice()) {
         let Wrote {
             gtid,
             alias,
@@ -157,6 +155,7 @@ fn told_next(command: u64, state: &CommandState, wrote: &Wrote) -> Event
 }
 
 fn written_next(fields: &Fields, command: u64, state: &CommandState, alias: &Alias) -> Option<Event>
+    requires group { AreOfGroup (data_of fields.now) }
     ensures { result ≡ first_of (written_next (seen (data_of fields.now)) command state.now alias.now state.now.wrote) }
 {
     match &state.wrote {
@@ -177,6 +176,7 @@ pub(crate) fn write_next(
     state: &CommandState,
     to: &Option<Alias>,
 ) -> Option<Event>
+    requires group { AreOfGroup (data_of fields.now) }
     ensures { result ≡ first_of (write_next (seen (data_of fields.now)) command state.now (place_of_write to.now state.now.primary)) }
 {
     match place_of_write(to, &state.primary) {

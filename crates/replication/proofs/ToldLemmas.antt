@@ -1,5 +1,5 @@
 -- A count of ackers by place is the count of ackers in the set.
-use Rattle.std.proofs.Common.{◌≡◌, ℕ, suc, ◌≤◌, Bool, true, false, ◌&&◌, ◌||◌, refl, sym, ap, subst, ◌∙◌, arith, List, [], ◌∷◌, cond, length, nat_le, IsTrue, get_or, Option, Some, IfSome, ◌↔◌}
+use Rattle.std.proofs.Common.{◌≡◌, ℕ, suc, ◌≤◌, Bool, true, false, ◌&&◌, ◌||◌, refl, sym, ap, subst, ◌∙◌, arith, List, [], ◌∷◌, cond, length, nat_le, IsTrue, get_or, Option, Some, None, IfSome, ◌↔◌}
 use Rattle.std.specs.List.{filter, zip, All}
 use Rattle.std.specs.Cmp.{IsTotalOrder}
 use Rattle.std.specs.Ordering.{ordering_reverse}
@@ -12,8 +12,9 @@ use Rattle.shard_names.specs.declared.alias.Alias.{Alias}
 use Rattle.shard_names.specs.declared.tablet.Tablet.{Tablet}
 use Rattle.shard_names.specs.Tablets.{alias_eq, alias_cmp, AliasesRise}
 use Rattle.shard_names.proofs.TabletLemmas.{alias_eq_is, alias_eq_itself}
+use Rattle.durability.proofs.CountingLemmas.{test_is_accepted}
 use Rattle.durability.specs.Rules.{Rules, IsLawful}
-use Rattle.durability.specs.Sets.{ackers_in}
+use Rattle.durability.specs.Sets.{ackers_in, is_accepted}
 use Rattle.replication.specs.Acks.{Acked, aliases_of, acked_of}
 use Rattle.replication.specs.Told.{holders, Told}
 use Rattle.replication.proofs.AckLemmas.{not_equal}
@@ -26,7 +27,7 @@ not_below_itself a less =
     let turned : Less ≡ ordering_reverse Less = subst (λ (o : Ordering). o ≡ ordering_reverse o) less (alias_total.antisymm a a) in
     absurd (cc)
 
-above_differs : (a b : Alias) → alias_cmp a b ≡ Less → alias_eq b a ≡ false
+pub above_differs : (a b : Alias) → alias_cmp a b ≡ Less → alias_eq b a ≡ false
 above_differs a b less = not_equal b a (λ same. not_below_itself a (subst (λ (c : Alias). alias_cmp a c ≡ Less) same less))
 
 -- two tests that agree on each tablet
@@ -121,3 +122,16 @@ found_told rules ts o primary xs is js index r found lawful same these rise read
       length_of : (us : List Tablet) → length (aliases_of us) ≡ length us
       length_of [] = refl
       length_of (u ∷ us) = ap (λ (k : ℕ). suc k) (length_of us)
+
+same_bool : (a b : Bool) → (IsTrue a ↔ IsTrue b) → a ≡ b
+same_bool true b h = sym (h.0 refl)
+same_bool false true h = h.1 refl
+same_bool false false h = refl
+
+-- that it is told is the test
+pub told_tested : (rules : Rules) (ts : List Tablet) (o : Option Tablet) (acked : Acked) (index : ℕ) (r : Bool) → IfSome o (λ t. IsTrue r ↔ Told rules ts t acked index)
+    → IfSome o (λ t. r ≡ is_accepted rules ts t (holders acked t.alias index))
+told_tested rules ts None acked index r told = tt
+told_tested rules ts (Some t) acked index r told =
+    let test = test_is_accepted rules ts t (holders acked t.alias index) in
+    same_bool r (is_accepted rules ts t (holders acked t.alias index)) (λ is. test.1 (told.0 is), λ is. told.1 (test.0 is))

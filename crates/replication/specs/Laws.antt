@@ -1,4 +1,4 @@
--- What holds of every policy, every shard and all acknowledgements.
+-- What holds of every policy, every shard and all acknowledgements (after S. Sougoumarane, Consensus Algorithms at Scale).
 use Rattle.std.specs.Prelude.{◌≡◌, ◌≢◌, ◌≤◌, ◌<◌, ℕ, List, IsTrue, All, Contains, ◌↔◌}
 use Rattle.shard_names.specs.declared.alias.Alias.{Alias}
 use Rattle.shard_names.specs.declared.tablet.Tablet.{Tablet}

@@ -2,7 +2,8 @@ ghost use Rattle.std.specs.Prelude.{◌≡◌, ◌<◌, ◌↔◌, ℕ, max, len
 ghost use Rattle.shard_names.specs.Tablets.{AreTablets, alias_eq, is_among, is_declared, tablet_of};
 ghost use Rattle.replication.specs.Acks.{aliases_of, acked_in, none_acked, raised};
 ghost use Rattle.replication.specs.Places.{IsAt, IsNowhere};
-ghost use Rattle.replication.specs.Told.{Told};
+ghost use Rattle.durability.specs.Sets.{is_accepted};
+ghost use Rattle.replication.specs.Told.{holders, Told};
 
 use crate::counting::{are_enough, find_tablet};
 use durability::Policy;
@@ -140,8 +141,10 @@ impl AckTable {
         requires made_for { self.now.aliases ≡ aliases_of tablets.now }
         requires shard { AreTablets tablets.now }
         requires declared { IsTrue (is_declared tablets.now primary.now) }
-        ensures { IfSome (tablet_of tablets.now primary.now) (λ t.
+        ensures told { IfSome (tablet_of tablets.now primary.now) (λ t.
             IsTrue result ↔ Told (P.rules policy.now) tablets.now t (acked_in self.now) index) }
+        ensures tested { IfSome (tablet_of tablets.now primary.now) (λ t.
+            result ≡ is_accepted (P.rules policy.now) tablets.now t (holders (acked_in self.now) t.alias index)) }
     {
         match find_tablet(tablets, primary) {
             Some(tablet) => are_enough(policy, tablets, self.indexes.as_slice(), tablet, index),

@@ -173,6 +173,7 @@ promoted_outcome (Some (Answered (says.Stopped newest position))) h = absurd (fa
 promoted_outcome (Some (Answered (says.Demoted newest position))) h = absurd (false≢true h)
 promoted_outcome (Some (Answered says.Joined)) h = absurd (false≢true h)
 promoted_outcome (Some (Answered says.Told)) h = absurd (false≢true h)
+promoted_outcome (Some (Answered says.NotTold)) h = absurd (false≢true h)
 promoted_outcome (Some (Answered (says.Kept at))) h = absurd (false≢true h)
 promoted_outcome (Some (Answered (says.StaleTerm seen))) h = absurd (false≢true h)
 promoted_outcome (Some (Answered (says.PromisedAhead promised))) h = absurd (false≢true h)

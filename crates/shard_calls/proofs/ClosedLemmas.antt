@@ -165,7 +165,7 @@ in_term_holds : (config : Config) (w v : World) (a : Alias) (u : ℕ) (f : Table
 in_term_holds config w v a u f known h =
     chosen (VerdictHolds v a) (nat_lt u (w.tablets a).seen) _ (f (record (w.tablets a) { seen = u })) (λ stale. same_kept config w v a _ known refl refl refl) (λ fresh. h)
 
-call_holds : (config : Config) (w v : World) (a : Alias) (u : ℕ) (call : Call) (me : Tablet) → Known config w v → Holds v a (after_call me u call (w.tablets a))
+call_holds : (config : Config) (w v : World) (a : Alias) (u : ℕ) (call : Call) (me : Tablet) → Known config w v → Holds v a (after_call w.group me u call (w.tablets a))
 call_holds config w v a u calls.Status me known = same_kept config w v a _ known refl refl refl
 call_holds config w v a u calls.Stop me known =
     in_term_holds config w v a u (stops u) known
@@ -187,7 +187,7 @@ call_holds config w v a u (calls.SetSource source t p) me known =
     (λ stays. same_kept config w v a _ known refl refl refl)
     (λ other. chosen (VerdictHolds v a) (covers p (position_of (w.tablets a).log)) _ _
     (λ inside. quiet config w v a _ known (λ n is. joined v (w.tablets a).log source n is) refl) (λ errant. same_kept config w v a _ known refl refl refl))))
-call_holds config w v a u (calls.WaitTold until) me known = in_term_holds config w v a u (waits_told u) known (same_kept config w v a _ known refl refl refl)
+call_holds config w v a u (calls.WaitTold until) me known = in_term_holds config w v a u (waits_told w.group me u) known (same_kept config w v a _ known refl refl refl)
 
 written_holds : (config : Config) (w v : World) (a : Alias) (o : Option ℕ) (me : Tablet) (client number : ℕ) → Known config w v
     → Holds v a (elim o as (λ _. Verdict Written) [ Some t ↦ writes_own me (kinds.Write t client number) (w.tablets a) | None ↦ only_says (w.tablets a) (written.NotPrimary (w.tablets a).stand) ]).state

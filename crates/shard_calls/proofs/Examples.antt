@@ -7,6 +7,8 @@ use Rattle.shard_names.specs.declared.tablet.TabletType.TheVariants as types
 use Rattle.shard_names.specs.declared.shard_name.ShardName.{ShardName}
 use Rattle.gtid_sets.specs.declared.gtid.Gtid.{Gtid}
 use Rattle.gtid_sets.specs.Position.{nothing, of_gtids}
+use Rattle.durability.specs.declared.policy.Durability.{Durability}
+use Rattle.durability.specs.declared.policy.Durability.TheVariants as policies
 use Rattle.shard_calls.specs.declared.call.Call.TheVariants as calls
 use Rattle.shard_calls.specs.declared.command.Command.TheVariants as commands
 use Rattle.shard_calls.specs.declared.command.CommandAnswer.TheVariants as answers
@@ -70,11 +72,17 @@ replica_of uid last = record { alias = alias_of uid; server = server_with last; 
 abbrev start : ℕ
 start = 1704067200000
 
+abbrev three_under : Durability → Config
+three_under policy = record { tablets = replica_of 100 0 ∷ replica_of 101 1 ∷ replica_of 102 2 ∷ []; policy = policy; moment = start }
+
 abbrev three : Config
-three = record { tablets = replica_of 100 0 ∷ replica_of 101 1 ∷ replica_of 102 2 ∷ []; moment = start }
+three = three_under policies.None
+
+abbrev two_under : Durability → Config
+two_under policy = record { tablets = replica_of 100 0 ∷ replica_of 101 1 ∷ []; policy = policy; moment = start }
 
 abbrev two : Config
-two = record { tablets = replica_of 100 0 ∷ replica_of 101 1 ∷ []; moment = start }
+two = two_under policies.None
 
 abbrev commerce : ShardName
 commerce = record { keyspace = codes "commerce"; shard = codes "0" }
@@ -411,3 +419,77 @@ not_lost = refl
 no_evidence :
     meets three (world_after_events three (opening three) (take 3 events_of_again)) (events.Send 1 z100 (calls.Promote nothing)) ≡ false
 no_evidence = refl
+
+-- ---- acknowledgements under semi_sync
+
+abbrev semi : Config
+semi = two_under policies.SemiSync
+
+abbrev events_of_waiting : List Event
+events_of_waiting =
+    events.Begin (codes "p") (commands.Planned commerce z100)
+    ∷ events.Take 1
+    ∷ events.Read 1
+    ∷ events.Intend 1 z100
+    ∷ events.Send 1 z100 (calls.Promote nothing)
+    ∷ events.Deliver 1
+    ∷ events.Deliver 2
+    ∷ events.Record 1 z100
+    ∷ events.Send 1 z101 (calls.SetSource z100 1 (of_gtids (gtid_of 0 1 ∷ [])))
+    ∷ events.Deliver 3
+    ∷ events.Deliver 4
+    ∷ events.Send 1 z100 (calls.WaitTold (start + 15000))
+    ∷ []
+
+abbrev after_waiting : World
+after_waiting = world_after_events semi (opening semi) events_of_waiting
+
+waiting_met : all_met semi (opening semi) events_of_waiting ≡ true
+waiting_met = refl
+
+-- the row waits for an acknowledgement, and so does the call
+waits_for_ack : meets semi after_waiting (events.Deliver 5) ≡ false
+waits_for_ack = refl
+
+-- the replica's acknowledgement tells the row, and a write behind it waits for its own
+abbrev events_of_acked : List Event
+events_of_acked =
+    events.Offer z101
+    ∷ events.Deliver 6
+    ∷ events.Deliver 7
+    ∷ events.Deliver 5
+    ∷ events.Deliver 8
+    ∷ events.Release 1
+    ∷ events.End 1 (answers.Promoted z100 1 [])
+    ∷ events.Begin main_name (commands.Write None)
+    ∷ events.Write 2 z100
+    ∷ []
+
+acked_met : all_met semi after_waiting events_of_acked ≡ true
+acked_met = refl
+
+abbrev after_acked : World
+after_acked = world_after_events semi after_waiting events_of_acked
+
+write_waits : meets semi after_acked (events.Tell 2) ≡ false
+write_waits = refl
+
+write_is_told :
+    all_met semi after_acked
+    (events.Offer z101 ∷ events.Deliver 9 ∷ events.Deliver 10 ∷ events.Tell 2 ∷ events.End 2 (answers.Committed (gtid_of 0 2) z100 1) ∷ [])
+    ≡ true
+write_is_told = refl
+
+-- where no acknowledgement comes in time, the row is not told
+abbrev events_of_not_told : List Event
+events_of_not_told =
+    events.Cut (sides.Tablet z100) (sides.Tablet z101)
+    ∷ events.Tick 16000
+    ∷ events.Deliver 5
+    ∷ events.Deliver 6
+    ∷ events.Release 1
+    ∷ events.End 1 (answers.Refused (refusals.NotAcknowledged z100 (unackeds.NotTold start (start + 16000))))
+    ∷ []
+
+not_told_met : all_met semi after_waiting events_of_not_told ≡ true
+not_told_met = refl

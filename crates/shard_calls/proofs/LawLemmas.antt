@@ -1,9 +1,8 @@
 -- That the definitions are moves, and what a refusal changes.
-use Rattle.std.proofs.Common.{◌≡◌, ℕ, ◌≤◌, ◌<◌, max, Bool, true, false, refl, ap, arith, cond, ◌||◌, ◌==◌, nat_lt, Option, Some, None}
+use Rattle.std.proofs.Common.{◌≡◌, ℕ, ◌≤◌, ◌<◌, Bool, true, false, refl, ap, arith, cond, ◌||◌, ◌==◌, nat_lt, Option, Some, None}
 use Rattle.std.proofs.lemmas.Bool.Decides.{nat_tests}
 use Rattle.shard_names.specs.declared.alias.Alias.{Alias}
 use Rattle.shard_names.specs.declared.tablet.Tablet.{Tablet}
-use Rattle.shard_names.specs.Tablets.{alias_eq}
 use Rattle.gtid_sets.specs.declared.entry.Entry.{Entry}
 use Rattle.gtid_sets.specs.declared.entry.Kind.TheVariants as kind
 use Rattle.gtid_sets.specs.Position.{Position, covers}
@@ -15,6 +14,8 @@ use Rattle.shard_calls.specs.declared.outcome.Written.{Written}
 use Rattle.shard_calls.specs.declared.outcome.Written.TheVariants as written
 use Rattle.shard_calls.specs.declared.stand.Stand.{Stand}
 use Rattle.shard_calls.specs.declared.stand.Stand.TheVariants as stand
+use Rattle.replication.specs.Acks.{raised}
+use Rattle.shard_calls.specs.Groups.{Group}
 use Rattle.shard_calls.specs.Stands.{is_down, is_primary_of, is_replica_in, primary_term, takes_from}
 use Rattle.shard_calls.specs.Logs.{position_of, has_row, newest_row, newest_row_names, row_or_zero}
 use Rattle.shard_calls.specs.Tablets.{TabletState, Verdict, only_says, in_term, stops, demotes, promotes, joins, waits_told, verdict, after_call, accepts, after_ack, writes_own}
@@ -68,13 +69,13 @@ join_moves u source t p s fits later =
     (λ inside. Promises u t (stand.Replica source t 1) later (let more : s.promised ≤ t = grind (arith, nat_tests) in more) fits (refl, refl))
     (λ errant. Sees u later)))
 
-call_moves : (me : Tablet) (u : ℕ) (c : Call) (s : TabletState) → FitsTerm u c → s.promised ≤ s.seen → TabletMove s (after_call me u c s)
-call_moves me u call.Status s fits low = Stays
-call_moves me u call.Stop s fits low = in_term_moves u s (stops u) (λ later. stop_moves u s (omega arith) later)
-call_moves me u call.Demote s fits low = in_term_moves u s (demotes me u) (λ later. demote_moves me u s (omega arith) later)
-call_moves me u (call.Promote p) s fits low = in_term_moves u s (promotes me u p) (λ later. promote_moves me u p s (omega arith) later)
-call_moves me u (call.SetSource source t p) s fits low = in_term_moves u s (joins source t p) (λ later. join_moves u source t p s fits later)
-call_moves me u (call.WaitTold until) s fits low = in_term_moves u s (waits_told u) (λ later. Sees u later)
+call_moves : (g : Group) (me : Tablet) (u : ℕ) (c : Call) (s : TabletState) → FitsTerm u c → s.promised ≤ s.seen → TabletMove s (after_call g me u c s)
+call_moves g me u call.Status s fits low = Stays
+call_moves g me u call.Stop s fits low = in_term_moves u s (stops u) (λ later. stop_moves u s (omega arith) later)
+call_moves g me u call.Demote s fits low = in_term_moves u s (demotes me u) (λ later. demote_moves me u s (omega arith) later)
+call_moves g me u (call.Promote p) s fits low = in_term_moves u s (promotes me u p) (λ later. promote_moves me u p s (omega arith) later)
+call_moves g me u (call.SetSource source t p) s fits low = in_term_moves u s (joins source t p) (λ later. join_moves u source t p s fits later)
+call_moves g me u (call.WaitTold until) s fits low = in_term_moves u s (waits_told g me u) (λ later. Sees u later)
 
 -- ---- the others are moves
 
@@ -96,7 +97,7 @@ entry_moves from term after index e s low =
 
 ack_moves : (from : Alias) (term index : ℕ) (s : TabletState) → TabletMove s (after_ack from term index s)
 ack_moves from term index s =
-    elim (is_primary_of s.stand term) as (λ b. TabletMove s (cond b (record s { acked = λ a. cond (alias_eq a from) (max index (s.acked a)) (s.acked a) }) s)) [
+    elim (is_primary_of s.stand term) as (λ b. TabletMove s (cond b (record s { acked = raised from index s.acked }) s)) [
       | true ↦ Hears _
       | false ↦ Stays
     ]
@@ -125,21 +126,21 @@ SeenAlone s v = IsRefusal v.says → v.state ≡ record s { seen = v.state.seen 
 alone_in_term : (u : ℕ) (s : TabletState) (f : TabletState → Verdict Answer) → SeenAlone s (f (seeing s u)) → SeenAlone s (in_term u s f)
 alone_in_term u s f h = chosen (SeenAlone s) (nat_lt u s.seen) (only_says s (answer.StaleTerm s.seen)) (f (seeing s u)) (λ stale r. refl) (λ fresh. h)
 
-refused_alone : (me : Tablet) (u : ℕ) (c : Call) (s : TabletState) → SeenAlone s (verdict me u c s)
-refused_alone me u call.Status s = λ r. absurd r
-refused_alone me u call.Stop s = alone_in_term u s (stops u) (λ r. absurd r)
-refused_alone me u call.Demote s = alone_in_term u s (demotes me u)
+refused_alone : (g : Group) (me : Tablet) (u : ℕ) (c : Call) (s : TabletState) → SeenAlone s (verdict g me u c s)
+refused_alone g me u call.Status s = λ r. absurd r
+refused_alone g me u call.Stop s = alone_in_term u s (stops u) (λ r. absurd r)
+refused_alone g me u call.Demote s = alone_in_term u s (demotes me u)
     (chosen (SeenAlone s) (s.promised == u) _ _ (λ e r. refl) (λ e. chosen (SeenAlone s) (newest_row_names s.log me.alias) _ _ (λ e r. absurd r) (λ e r. refl)))
-refused_alone me u (call.Promote p) s = alone_in_term u s (promotes me u p)
+refused_alone g me u (call.Promote p) s = alone_in_term u s (promotes me u p)
     (chosen (SeenAlone s) (has_row s.log u) _ _ (λ e r. refl) (λ e. chosen (SeenAlone s) (covers (position_of s.log) p) _ _ (λ e r. absurd r) (λ e r. refl)))
-refused_alone me u (call.SetSource source t p) s = alone_in_term u s (joins source t p)
+refused_alone g me u (call.SetSource source t p) s = alone_in_term u s (joins source t p)
     (chosen (SeenAlone s) (nat_lt t s.promised) _ _ (λ e r. refl)
     (λ e. chosen (SeenAlone s) (is_primary_of s.stand t || is_replica_in s.stand t) _ _ (λ e r. refl)
     (λ e. chosen (SeenAlone s) (covers p (position_of s.log)) _ _ (λ e r. absurd r) (λ e r. refl))))
-refused_alone me u (call.WaitTold until) s = alone_in_term u s (waits_told u) (λ r. refl)
+refused_alone g me u (call.WaitTold until) s = alone_in_term u s (waits_told g me u) (λ r. refl)
 
 pub refusal_changes_seen_alone : RefusalChangesSeenAlone
-refusal_changes_seen_alone me u c s r = refused_alone me u c s r
+refusal_changes_seen_alone g me u c s r = refused_alone g me u c s r
 
 -- ---- stale terms
 
@@ -147,9 +148,9 @@ stale : (u : ℕ) (s : TabletState) (f : TabletState → Verdict Answer) → u <
 stale u s f old = let below : nat_lt u s.seen ≡ true = grind (arith, nat_tests) in rw below refl
 
 pub stale_term_is_refused : StaleTermIsRefused
-stale_term_is_refused me u call.Status s asks old = absurd asks
-stale_term_is_refused me u call.Stop s asks old = stale u s (stops u) old
-stale_term_is_refused me u call.Demote s asks old = stale u s (demotes me u) old
-stale_term_is_refused me u (call.Promote p) s asks old = stale u s (promotes me u p) old
-stale_term_is_refused me u (call.SetSource source t p) s asks old = stale u s (joins source t p) old
-stale_term_is_refused me u (call.WaitTold until) s asks old = stale u s (waits_told u) old
+stale_term_is_refused g me u call.Status s asks old = absurd asks
+stale_term_is_refused g me u call.Stop s asks old = stale u s (stops u) old
+stale_term_is_refused g me u call.Demote s asks old = stale u s (demotes me u) old
+stale_term_is_refused g me u (call.Promote p) s asks old = stale u s (promotes me u p) old
+stale_term_is_refused g me u (call.SetSource source t p) s asks old = stale u s (joins source t p) old
+stale_term_is_refused g me u (call.WaitTold until) s asks old = stale u s (waits_told g me u) old

@@ -18,3 +18,6 @@ pub mod WroteLemmas
 pub mod CauseLemmas
 pub mod OutcomeLemmas
 pub mod RunLemmas
+pub mod GroupLemmas
+pub mod AcceptLemmas
+pub mod SafeLemmas

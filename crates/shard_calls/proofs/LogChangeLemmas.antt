@@ -55,7 +55,7 @@ in_term_changes config w a e u f h = chosen (OfVerdict config w a e) (nat_lt u (
 
 call_changes : (config : Config) (w : World) (a : Alias) (k c u : ℕ) (call : Call) (me : Tablet) (m : Message) → numbered w.post k ≡ Some m
     → m.content ≡ contents.Asks c u a call → tablet_of config.tablets a ≡ Some me
-    → LogChange config w a (events.Deliver k) (after_call me u call (w.tablets a)).log
+    → LogChange config w a (events.Deliver k) (after_call w.group me u call (w.tablets a)).log
 call_changes config w a k c u calls.Status me m here carries found = SameLog
 call_changes config w a k c u calls.Stop me m here carries found =
     in_term_changes config w a (events.Deliver k) u (stops u)
@@ -75,7 +75,7 @@ call_changes config w a k c u (calls.SetSource source t p) me m here carries fou
     (λ fresh. chosen (OfVerdict config w a (events.Deliver k)) (is_primary_of (w.tablets a).stand t || is_replica_in (w.tablets a).stand t) _ _ (λ kept. SameLog)
     (λ other. chosen (OfVerdict config w a (events.Deliver k)) (covers p (position_of (w.tablets a).log)) _ _ (λ inside. SameLog) (λ errant. SameLog))))
 call_changes config w a k c u (calls.WaitTold until) me m here carries found =
-    in_term_changes config w a (events.Deliver k) u (waits_told u) SameLog
+    in_term_changes config w a (events.Deliver k) u (waits_told w.group me u) SameLog
 
 entry_changes : (config : Config) (w : World) (a : Alias) (k term before index : ℕ) (from : Alias) (x : Entry) (m : Message) (b : Bool) → numbered w.post k ≡ Some m
     → m.content ≡ contents.Feeds from a term before index x → takes_from (w.tablets a).stand from term before ≡ true → holds (w.tablets a).log x.gtid ≡ b

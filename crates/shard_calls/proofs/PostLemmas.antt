@@ -31,7 +31,7 @@ use Rattle.shard_calls.proofs.ListLemmas.{numbered-push_cases, changed_at_cases}
 pub data Sent (config : Config) (w : World) : Event → Content → Type 0 where
   Asked : (c : ℕ) (a : Alias) (call : Call) → Sent config w (events.Send c a call) (call_of w c a call)
   Replied : (k c u : ℕ) (a : Alias) (call : Call) (me : Tablet) (m : Message) → numbered w.post k ≡ Some m → m.content ≡ contents.Asks c u a call
-      → tablet_of config.tablets a ≡ Some me → Sent config w (events.Deliver k) (contents.Answers c k a (answer_to me u call (w.tablets a)))
+      → tablet_of config.tablets a ≡ Some me → Sent config w (events.Deliver k) (contents.Answers c k a (answer_to w.group me u call (w.tablets a)))
   Acked : (k term before index : ℕ) (from to : Alias) (x : Entry) (m : Message) → numbered w.post k ≡ Some m
       → m.content ≡ contents.Feeds from to term before index x → (accepts from term before index x (w.tablets to)).says ≡ accepteds.Taken
       → Sent config w (events.Deliver k) (contents.Acks to from term index)

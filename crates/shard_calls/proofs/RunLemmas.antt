@@ -29,9 +29,11 @@ use Rattle.shard_calls.specs.declared.state.Wrote.{Wrote}
 use Rattle.shard_calls.specs.declared.stand.Stand.TheVariants as stands
 use Rattle.shard_calls.specs.Stands.{is_primary_of}
 use Rattle.shard_calls.specs.Logs.{row_term, is_row_of, has_row}
-use Rattle.shard_calls.specs.Tablets.{TabletState, answer_to, is_told}
+use Rattle.shard_calls.specs.Groups.{Group}
+use Rattle.shard_calls.specs.Tablets.{TabletState, answer_to, is_row_told}
 use Rattle.shard_calls.specs.Laws.{HasItsRow}
 use Rattle.shard_calls.specs.World.{Config, IsConfig, World, opening, numbered, open_command}
+use Rattle.shard_calls.specs.Messages.{is_told_at}
 use Rattle.shard_calls.specs.Writes.{tell_of, tell_reply}
 use Rattle.shard_calls.specs.Table.{after, IsStep, IsRunFrom, IsRun, world_after}
 use Rattle.shard_calls.specs.Promotions.{world_at, IsNewIn, IsPromotion, OnePromotion, PromotesIntended, TellsAt, ToWrite, ToWait, HoldsTold, IsWriteOf, IsToldBy, told_at, KeepsTold}
@@ -42,8 +44,7 @@ use Rattle.shard_calls.specs.declared.command.CommandAnswer.TheVariants as ends
 use Rattle.shard_calls.specs.declared.command.NotJoined.{NotJoined}
 use Rattle.gtid_sets.specs.declared.gtid.Gtid.{Gtid}
 use Rattle.shard_calls.specs.Causes.{has_cause}
-use Rattle.shard_calls.specs.Safe.{IsSafe}
-use Rattle.shard_calls.proofs.ActLemmas.{acts_are_steps, if_open_is}
+use Rattle.shard_calls.proofs.ActLemmas.{if_open_is}
 use Rattle.shard_calls.proofs.CauseLemmas.{committed_is_written, promoted_has_row}
 use Rattle.shard_calls.proofs.WroteLemmas.{wrote_in, WroteFits, AllWroteFits, wrote_after, wrote_opening}
 use Rattle.shard_calls.proofs.ToldLemmas.{IsTellingWorld, telling_after, telling_opening, row_longer}
@@ -84,7 +85,7 @@ sound_whole : (config : Config) (w : World) (ss : List Step) → IsRunFrom confi
 sound_whole config w [] run sound = sound
 sound_whole config w (s ∷ ss) run sound = sound_whole config (after config w s.event) ss run.1 (sound_after config w s.event run.0.met sound)
 
-step_along : (config : Config) (w : World) (ss : List Step) (i : ℕ) (s : Step) → IsRunFrom config w ss → slice_get ss i ≡ Some s
+pub step_along : (config : Config) (w : World) (ss : List Step) (i : ℕ) (s : Step) → IsRunFrom config w ss → slice_get ss i ≡ Some s
     → IsStep config (world_after config w (take i ss)) s
 step_along config w [] i s run here = absurd (let none : None ≡ Some s = here in cc)
 step_along config w (x ∷ ss) zero s run here =
@@ -100,9 +101,9 @@ next_world config w (x ∷ ss) (suc i) s here = next_world config (after config 
 
 -- ---- what one world has, later ones have
 
-record IsAfter (w v : World) : Type 0 where
-  topo : TopoMoves w.topo v.topo
-  logs : (a : Alias) → IsFront (w.tablets a).log (v.tablets a).log
+pub record IsAfter (w v : World) : Type 0 where
+  pub topo : TopoMoves w.topo v.topo
+  pub logs : (a : Alias) → IsFront (w.tablets a).log (v.tablets a).log
 
 itself : (w : World) → IsAfter w w
 itself w = record { topo = Rests; logs = λ a. whole (w.tablets a).log }
@@ -137,7 +138,7 @@ between config w (s ∷ ss) (suc i) (suc j) run sound le =
 sound_at : (config : Config) (ss : List Step) (i : ℕ) → IsRun config ss → IsSoundWorld (world_at config ss i)
 sound_at config ss i run = sound_along config (opening config) ss i run (sound_opening config)
 
-later_at : (config : Config) (ss : List Step) (i j : ℕ) → IsRun config ss → i ≤ j → IsAfter (world_at config ss i) (world_at config ss j)
+pub later_at : (config : Config) (ss : List Step) (i j : ℕ) → IsRun config ss → i ≤ j → IsAfter (world_at config ss i) (world_at config ss j)
 later_at config ss i j run le = between config (opening config) ss i j run (sound_opening config) le
 
 -- ---- tablets and topology
@@ -272,32 +273,40 @@ primary_first w a t sound is =
     let kind = row_kind row.1.kind t row.3 in
     (kind.0, (sound.rows a row.0 row.1 t kind.0 row.2 kind.1).intended)
 
-told_by_write : (b c : Bool) → unwrap_or (cond b (only_if c replies.Told) (Some replies.Gone)) replies.Ok ≡ replies.Told → b ≡ true
-told_by_write true c h = refl
+told_by_write : (b c : Bool) → unwrap_or (cond b (only_if c replies.Told) (Some replies.Gone)) replies.Ok ≡ replies.Told → (b ≡ true) × (c ≡ true)
+told_by_write true true h = (refl, refl)
+told_by_write true false h = absurd (let nothing : replies.Ok ≡ replies.Told = h in cc)
 told_by_write false c h = absurd (let gone : replies.Gone ≡ replies.Told = h in cc)
 
-told_in : (b : Bool) (at : Stand) → cond b says.Told (says.Kept at) ≡ says.Told → b ≡ true
-told_in true at h = refl
-told_in false at h = absurd (let no_answer : says.Kept at ≡ says.Told = h in cc)
+told_in : (b c : Bool) (at : Stand) → cond b (cond c says.Told says.NotTold) (says.Kept at) ≡ says.Told → (b ≡ true) × (c ≡ true)
+told_in true true at h = (refl, refl)
+told_in true false at h = absurd (let no_answer : says.NotTold ≡ says.Told = h in cc)
+told_in false c at h = absurd (let no_answer : says.Kept at ≡ says.Told = h in cc)
 
-told_by_wait : (me : Tablet) (t until : ℕ) (s : TabletState) → answer_to me t (calls.WaitTold until) s ≡ says.Told → is_primary_of s.stand t ≡ true
-told_by_wait me t until s =
-    chosen (λ v. v.says ≡ says.Told → is_primary_of s.stand t ≡ true) (nat_lt t s.seen) _ _
-    (λ stale h. absurd (let no_answer : says.StaleTerm s.seen ≡ says.Told = h in cc)) (λ fresh h. told_in (is_primary_of s.stand t) s.stand h)
+-- a tablet that tells the row of a term stands as the primary of the term, and the row is told there
+pub told_by_wait : (g : Group) (me : Tablet) (t until : ℕ) (s : TabletState) → answer_to g me t (calls.WaitTold until) s ≡ says.Told
+    → (is_primary_of s.stand t ≡ true) × (is_row_told g me s t ≡ true)
+told_by_wait g me t until s =
+    chosen (λ v. v.says ≡ says.Told → (is_primary_of s.stand t ≡ true) × (is_row_told g me s t ≡ true)) (nat_lt t s.seen) _ _
+    (λ stale h. absurd (let no_answer : says.StaleTerm s.seen ≡ says.Told = h in cc))
+    (λ fresh h. told_in (is_primary_of s.stand t) (is_row_told g me s t) s.stand h)
+
+-- so does one that tells a write
+pub told_by_tell : (config : Config) (w : World) (c : ℕ) (s : CommandState) (x : Wrote) → IsStep config w (record { event = events.Tell c; reply = replies.Told })
+    → numbered w.commands c ≡ Some s → s.wrote ≡ Some x → (is_primary_of (w.tablets x.alias).stand x.term ≡ true) × (is_told_at w x.alias x.index ≡ true)
+told_by_tell config w c s x step command wrote =
+    let tells : tell_of w c ≡ tell_reply w x =
+    ap (λ (o : Option CommandState). o >>= (λ y. y.wrote >>= (λ z. tell_reply w z))) command ∙ ap (λ (o : Option Wrote). o >>= (λ z. tell_reply w z)) wrote in
+    let told : unwrap_or (tell_reply w x) replies.Ok ≡ replies.Told = ap (λ (o : Option Reply). unwrap_or o replies.Ok) (sym tells) ∙ sym step.answered in
+    told_by_write (is_primary_of (w.tablets x.alias).stand x.term) (is_told_at w x.alias x.index) told
 
 -- the tablet at which a step tells an entry stands as the primary of its term
 told_first : (config : Config) (w : World) (s : Step) (e : Entry) (t : ℕ) → IsSoundWorld w → IsStep config w s → TellsAt config w s e t
     → (c : Alias) × IsIntended w.topo t c
 told_first config w _ _ _ sound step (ToWrite c s x e command wrote at) =
-    let tells : tell_of w c ≡ tell_reply (w.tablets x.alias) x =
-    ap (λ (o : Option CommandState). o >>= (λ y. y.wrote >>= (λ z. tell_reply (w.tablets z.alias) z))) command
-    ∙ ap (λ (o : Option Wrote). o >>= (λ z. tell_reply (w.tablets z.alias) z)) wrote in
-    let told : unwrap_or (tell_reply (w.tablets x.alias) x) replies.Ok ≡ replies.Told =
-    ap (λ (o : Option Reply). unwrap_or o replies.Ok) (sym tells) ∙ sym step.answered in
-    primary_first w x.alias x.term sound
-    (told_by_write (is_primary_of (w.tablets x.alias).stand x.term) (is_told (w.tablets x.alias) x.index) told)
+    primary_first w x.alias x.term sound (told_by_tell config w c s x step command wrote).0
 told_first config w _ _ _ sound step (ToWait k n c t until index a me m e here carries found told at_row at) =
-    primary_first w a t sound (told_by_wait me t until (w.tablets a) told)
+    primary_first w a t sound (told_by_wait w.group me t until (w.tablets a) told).0
 
 same_first : (xs ys : List Intent) (x y : Intent) → IsFront xs ys → slice_get xs 0 ≡ Some x → slice_get ys 0 ≡ Some y → x ≡ y
 same_first xs ys x y front p q = same_some x y (sym (get_front xs ys 0 x front p) ∙ q)
@@ -327,22 +336,37 @@ holds_told config ss run i j u t a before e p q less = absurd (of_order (nat_lt 
 -- ---- the laws over the tablets of one shard
 
 -- all that holds of a world of a run
-record IsWhole (config : Config) (w : World) : Type 0 where
-  sound : IsSoundWorld w
-  unique : IsUniqueWorld config w
-  closed : IsClosedWorld w
+pub record IsWhole (config : Config) (w : World) : Type 0 where
+  pub sound : IsSoundWorld w
+  pub unique : IsUniqueWorld config w
+  pub closed : IsClosedWorld w
+
+whole_after : (config : Config) (w : World) (s : Step) → IsConfig config → IsStep config w s → IsWhole config w → IsWhole config (after config w s.event)
+whole_after config w s is step h = record {
+  sound = sound_after config w s.event step.met h.sound;
+  unique = unique_after config w s.event h.sound h.unique;
+  closed = closed_after config w s.event is h.sound h.unique h.closed;
+}
+
+whole_opening : (config : Config) → IsWhole config (opening config)
+whole_opening config = record { sound = sound_opening config; unique = unique_opening config; closed = closed_opening config }
 
 whole_along : (config : Config) (w : World) (ss : List Step) → IsConfig config → IsRunFrom config w ss → IsWhole config w → IsWhole config (world_after config w ss)
 whole_along config w [] is run h = h
-whole_along config w (s ∷ ss) is run h = whole_along config (after config w s.event) ss is run.1 (record {
-  sound = sound_after config w s.event run.0.met h.sound;
-  unique = unique_after config w s.event h.sound h.unique;
-  closed = closed_after config w s.event is h.sound h.unique h.closed;
-})
+whole_along config w (s ∷ ss) is run h = whole_along config (after config w s.event) ss is run.1 (whole_after config w s is run.0 h)
 
 whole_run : (config : Config) (ss : List Step) → IsConfig config → IsRun config ss → IsWhole config (world_after config (opening config) ss)
-whole_run config ss is run =
-    whole_along config (opening config) ss is run (record { sound = sound_opening config; unique = unique_opening config; closed = closed_opening config })
+whole_run config ss is run = whole_along config (opening config) ss is run (whole_opening config)
+
+whole_among : (config : Config) (w : World) (ss : List Step) (i : ℕ) → IsConfig config → IsRunFrom config w ss → IsWhole config w
+    → IsWhole config (world_after config w (take i ss))
+whole_among config w [] zero is run h = h
+whole_among config w [] (suc i) is run h = h
+whole_among config w (s ∷ ss) zero is run h = h
+whole_among config w (s ∷ ss) (suc i) is run h = whole_among config (after config w s.event) ss i is run.1 (whole_after config w s is run.0 h)
+
+pub whole_at : (config : Config) (ss : List Step) (i : ℕ) → IsConfig config → IsRun config ss → IsWhole config (world_at config ss i)
+whole_at config ss i is run = whole_among config (opening config) ss i is run (whole_opening config)
 
 pub one_entry_each : OfEveryShard OneEntry
 one_entry_each config ss is run = one_entry config (world_after config (opening config) ss) is (whole_run config ss is run).unique
@@ -457,16 +481,3 @@ outcomes_are_steps config ss run k m here =
     ap (λ (o : Option Message). settled_in o) (sym here)
     ∙ outcomes_along config (opening config) ss k run (sound_opening config) (telling_opening config)
     ∙ ap (λ (o : Option Settled). first_of o (first_settling config (opening config) k ss)) (nothing_first k)
-
-pub every_run_is_safe : OfEveryShard IsSafe
-every_run_is_safe config ss is run = record {
-  tablets = is.tablets;
-  run = run;
-  one_promotion = one_promotion config ss run;
-  intended = promotes_intended config ss run;
-  holds_told = holds_told config ss run;
-  keeps_told = keeps_told config ss run;
-  causes = answers_have_causes config ss run;
-  acts = acts_are_steps config ss run;
-  outcomes = outcomes_are_steps config ss run;
-}

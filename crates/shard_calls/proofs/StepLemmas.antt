@@ -50,7 +50,7 @@ carried w k m content sound here carries = subst (λ (c : Content). Fits w c) ca
 pub touched_moves : (config : Config) (w : World) (a : Alias) (e : Event) (t : TabletState) → IsSoundWorld w → Touched config w a e t → TabletMove (w.tablets a) t
 touched_moves config w a _ _ sound Untouched = Stays
 touched_moves config w a _ _ sound (Called k c u call me m here carries found) =
-    are_moves.a_call me u call (w.tablets a) (ask_term w.topo u a call (carried w k m (contents.Asks c u a call) sound here carries)) (sound.tablets a).seen
+    are_moves.a_call w.group me u call (w.tablets a) (ask_term w.topo u a call (carried w k m (contents.Asks c u a call) sound here carries)) (sound.tablets a).seen
 touched_moves config w a _ _ sound (Fed k term before index from x m here carries taken) =
     are_moves.an_entry from term before index x (w.tablets a) (carried w k m (contents.Feeds from a term before index x) sound here carries).1
 touched_moves config w a _ _ sound (Heard k term index from m here carries) = are_moves.an_ack from term index (w.tablets a)

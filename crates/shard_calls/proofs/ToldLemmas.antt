@@ -24,7 +24,8 @@ use Rattle.shard_calls.specs.declared.stand.Stand.{Stand}
 use Rattle.shard_calls.specs.declared.stand.Stand.TheVariants as stands
 use Rattle.shard_calls.specs.Stands.{is_primary_of, is_replica_in}
 use Rattle.shard_calls.specs.Logs.{position_of, has_row, newest_row_names}
-use Rattle.shard_calls.specs.Tablets.{TabletState, Verdict, in_term, stops, demotes, promotes, joins, waits_told, after_call, answer_to}
+use Rattle.shard_calls.specs.Groups.{Group}
+use Rattle.shard_calls.specs.Tablets.{TabletState, Verdict, is_row_told, in_term, stops, demotes, promotes, joins, waits_told, after_call, answer_to}
 use Rattle.shard_calls.specs.World.{Config, World, opening, on_message, arrives, numbered}
 use Rattle.shard_calls.specs.Messages.{Indexed, needed, may_feed, feed_of, offered_by}
 use Rattle.shard_calls.specs.Deliveries.{if_declared, asked, after_arrival, after_delivery}
@@ -46,6 +47,7 @@ RowIfPromoted log u (answers.Demoted newest position) = Unit {0}
 RowIfPromoted log u (answers.Promoted position) = has_row log u ≡ true
 RowIfPromoted log u answers.Joined = Unit {0}
 RowIfPromoted log u answers.Told = Unit {0}
+RowIfPromoted log u answers.NotTold = Unit {0}
 RowIfPromoted log u (answers.Kept at) = Unit {0}
 RowIfPromoted log u (answers.StaleTerm seen) = Unit {0}
 RowIfPromoted log u (answers.PromisedAhead promised) = Unit {0}
@@ -98,6 +100,7 @@ row_if_longer xs ys u (answers.Demoted newest position) front h = tt
 row_if_longer xs ys u (answers.Promoted position) front h = row_longer xs ys u front h
 row_if_longer xs ys u answers.Joined front h = tt
 row_if_longer xs ys u answers.Told front h = tt
+row_if_longer xs ys u answers.NotTold front h = tt
 row_if_longer xs ys u (answers.Kept at) front h = tt
 row_if_longer xs ys u (answers.StaleTerm seen) front h = tt
 row_if_longer xs ys u (answers.PromisedAhead promised) front h = tt
@@ -135,36 +138,38 @@ kept_truth : (b : Bool) (log : List Entry) (u : ℕ) (p : Position) (at : Stand)
 kept_truth true log u p at h = h
 kept_truth false log u p at h = tt
 
-told_truth : (b : Bool) (log : List Entry) (u : ℕ) (at : Stand) → RowIfPromoted log u (cond b answers.Told (answers.Kept at))
-told_truth true log u at = tt
-told_truth false log u at = tt
+told_truth : (b c : Bool) (log : List Entry) (u : ℕ) (at : Stand) → RowIfPromoted log u (cond b (cond c answers.Told answers.NotTold) (answers.Kept at))
+told_truth true true log u at = tt
+told_truth true false log u at = tt
+told_truth false c log u at = tt
 
-call_truth : (me : Tablet) (u : ℕ) (call : Call) (s : TabletState) → RowIfPromoted (after_call me u call s).log u (answer_to me u call s)
-call_truth me u calls.Status s = tt
-call_truth me u calls.Stop s = in_term_truth u s (stops u) tt
-call_truth me u calls.Demote s =
+call_truth : (g : Group) (me : Tablet) (u : ℕ) (call : Call) (s : TabletState) → RowIfPromoted (after_call g me u call s).log u (answer_to g me u call s)
+call_truth g me u calls.Status s = tt
+call_truth g me u calls.Stop s = in_term_truth u s (stops u) tt
+call_truth g me u calls.Demote s =
     in_term_truth u s (demotes me u)
     (chosen (Truth u) (s.promised == u) _ _ (λ there. tt) (λ other. chosen (Truth u) (newest_row_names s.log me.alias) _ _ (λ own. tt) (λ no_own. tt)))
-call_truth me u (calls.Promote p) s =
+call_truth g me u (calls.Promote p) s =
     in_term_truth u s (promotes me u p)
     (chosen (Truth u) (has_row s.log u) _ _ (λ there. kept_truth (is_primary_of s.stand u) s.log u (position_of s.log) s.stand there)
     (λ none. chosen (Truth u) (covers (position_of s.log) p) _ _ (λ caught. own_row s.log _ u refl) (λ short. tt)))
-call_truth me u (calls.SetSource source t p) s =
+call_truth g me u (calls.SetSource source t p) s =
     in_term_truth u s (joins source t p)
     (chosen (Truth u) (nat_lt t s.promised) _ _ (λ ahead. tt)
     (λ fresh. chosen (Truth u) (is_primary_of s.stand t || is_replica_in s.stand t) _ _ (λ stays. tt)
     (λ other. chosen (Truth u) (covers p (position_of s.log)) _ _ (λ inside. tt) (λ errant. tt))))
-call_truth me u (calls.WaitTold until) s = in_term_truth u s (waits_told u) (told_truth (is_primary_of s.stand u) s.log u s.stand)
+call_truth g me u (calls.WaitTold until) s =
+    in_term_truth u s (waits_told g me u) (told_truth (is_primary_of s.stand u) (is_row_told g me s u) s.log u s.stand)
 
 -- the state that a call leaves
 asked_state : (config : Config) (w : World) (k c u : ℕ) (a : Alias) (call : Call) (me : Tablet) (m : Message) → numbered w.post k ≡ Some m
     → m.content ≡ contents.Asks c u a call → tablet_of config.tablets a ≡ Some me
-    → (after config w (events.Deliver k)).tablets a ≡ after_call me u call (w.tablets a)
+    → (after config w (events.Deliver k)).tablets a ≡ after_call w.group me u call (w.tablets a)
 asked_state config w k c u a call me m here carries found =
     ap (λ (o : Option Message). (after_delivery config w k o).tablets a) here
     ∙ ap (λ (x : Content). (after_arrival config (on_message w k (arrives w.clock)) k x).tablets a) carries
     ∙ ap (λ (o : Option Tablet). (if_declared o (on_message w k (arrives w.clock)) (asked (on_message w k (arrives w.clock)) k c u a call)).tablets a) found
-    ∙ ap (λ (b : Bool). cond b (after_call me u call (w.tablets a)) (w.tablets a)) (alias_eq_itself a)
+    ∙ ap (λ (b : Bool). cond b (after_call w.group me u call (w.tablets a)) (w.tablets a)) (alias_eq_itself a)
 
 -- ---- what is offered is no answer
 
@@ -198,7 +203,7 @@ same_answer c k a x d asked from says h = (cc, cc, cc)
 
 replied_fits : (config : Config) (w : World) (k c u : ℕ) (a : Alias) (call : Call) (me : Tablet) (m : Message) → IsSoundWorld w → numbered w.post k ≡ Some m
     → m.content ≡ contents.Asks c u a call → tablet_of config.tablets a ≡ Some me
-    → AnswerFits (after config w (events.Deliver k)) k a (answer_to me u call (w.tablets a))
+    → AnswerFits (after config w (events.Deliver k)) k a (answer_to w.group me u call (w.tablets a))
 replied_fits config w k c u a call me m sound here carries found =
     let r = post_stays config w (events.Deliver k) k m here in
     record {
@@ -208,19 +213,19 @@ replied_fits config w k c u a call me m sound here carries found =
       call = call;
       at = r.1;
       carries = r.2 ∙ carries;
-      row = subst (λ (s : TabletState). RowIfPromoted s.log u (answer_to me u call (w.tablets a))) (sym (asked_state config w k c u a call me m here carries found))
-          (call_truth me u call (w.tablets a));
+      row = subst (λ (s : TabletState). RowIfPromoted s.log u (answer_to w.group me u call (w.tablets a))) (sym (asked_state config w k c u a call me m here carries found))
+          (call_truth w.group me u call (w.tablets a));
     }
 
 sent_answer : (config : Config) (w : World) (e : Event) (content : Content) (d asked : ℕ) (from : Alias) (says : Answer) → IsSoundWorld w → Sent config w e content
     → content ≡ contents.Answers d asked from says → AnswerFits (after config w e) asked from says
 sent_answer config w _ _ d asked from says sound (Asked c a call) is = absurd (cc)
 sent_answer config w _ _ d asked from says sound (Replied k c u a call me m here carries found) is =
-    let same = same_answer c k a (answer_to me u call (w.tablets a)) d asked from says is in
+    let same = same_answer c k a (answer_to w.group me u call (w.tablets a)) d asked from says is in
     let fits = replied_fits config w k c u a call me m sound here carries found in
     subst (λ (x : Answer). AnswerFits (after config w (events.Deliver k)) asked from x) same.2
-    (subst (λ (b : Alias). AnswerFits (after config w (events.Deliver k)) asked b (answer_to me u call (w.tablets a))) same.1
-    (subst (λ (n : ℕ). AnswerFits (after config w (events.Deliver k)) n a (answer_to me u call (w.tablets a))) same.0 fits))
+    (subst (λ (b : Alias). AnswerFits (after config w (events.Deliver k)) asked b (answer_to w.group me u call (w.tablets a))) same.1
+    (subst (λ (n : ℕ). AnswerFits (after config w (events.Deliver k)) n a (answer_to w.group me u call (w.tablets a))) same.0 fits))
 sent_answer config w _ _ d asked from says sound (Acked k term before index source to x m here carries taken) is = absurd (cc)
 sent_answer config w _ _ d asked from says sound (Offered r content offered) is =
     absurd (offer_is_none w r (w.tablets r).stand content d asked from says offered is)

@@ -34,7 +34,7 @@ use Rattle.shard_calls.specs.Table.{after}
 pub data Touched (config : Config) (w : World) (a : Alias) : Event → TabletState → Type 0 where
   Untouched : {e : Event} → Touched config w a e (w.tablets a)
   Called : (k c u : ℕ) (call : Call) (me : Tablet) (m : Message) → numbered w.post k ≡ Some m → m.content ≡ contents.Asks c u a call
-      → tablet_of config.tablets a ≡ Some me → Touched config w a (events.Deliver k) (after_call me u call (w.tablets a))
+      → tablet_of config.tablets a ≡ Some me → Touched config w a (events.Deliver k) (after_call w.group me u call (w.tablets a))
   Fed : (k term before index : ℕ) (from : Alias) (x : Entry) (m : Message) → numbered w.post k ≡ Some m → m.content ≡ contents.Feeds from a term before index x
       → (accepts from term before index x (w.tablets a)).says ≡ accepteds.Taken
       → Touched config w a (events.Deliver k) (accepts from term before index x (w.tablets a)).state
@@ -60,9 +60,9 @@ asked_cases : (config : Config) (w : World) (k c u : ℕ) (b a : Alias) (call : 
     → Touched config w a (events.Deliver k) ((if_declared o (on_message w k (arrives w.clock)) (asked (on_message w k (arrives w.clock)) k c u b call)).tablets a)
 asked_cases config w k c u b a call m None here holds found = Untouched
 asked_cases config w k c u b a call m (Some me) here holds found =
-    at_cases (Touched config w a (events.Deliver k)) w.tablets b a (after_call me u call (w.tablets b))
+    at_cases (Touched config w a (events.Deliver k)) w.tablets b a (after_call w.group me u call (w.tablets b))
     (λ e. subst (λ (x : Alias). m.content ≡ contents.Asks c u x call → tablet_of config.tablets x ≡ Some me
-    → Touched config w a (events.Deliver k) (after_call me u call (w.tablets x))) (sym e) (λ p q. Called k c u call me m here p q) holds found)
+    → Touched config w a (events.Deliver k) (after_call w.group me u call (w.tablets x))) (sym e) (λ p q. Called k c u call me m here p q) holds found)
     Untouched
 
 fed_cases : (config : Config) (w : World) (k term before index : ℕ) (from b a : Alias) (x : Entry) (m : Message) (says : Accepted) → numbered w.post k ≡ Some m

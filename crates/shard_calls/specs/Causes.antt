@@ -139,6 +139,10 @@ abbrev pub is_told_so : Option Outcome → Bool
 is_told_so (Some (Answered says.Told)) = true
 is_told_so _ = false
 
+abbrev pub is_not_told : Option Outcome → Bool
+is_not_told (Some (Answered says.NotTold)) = true
+is_not_told _ = false
+
 abbrev pub is_given_up : Why → Option Outcome → Bool
 is_given_up why (Some (GivenUp x)) = why_eq x why
 is_given_up why _ = false
@@ -195,6 +199,8 @@ has_refusal_cause config new_primary done sent (refusals.NotCaughtUp a missing s
     list_any (λ s. is_promote s.call && alias_eq s.to a && is_short_of missing s.outcome && (s.sent == since) && is_some_of s.arrived now) sent
 has_refusal_cause config new_primary done sent (refusals.StaleTerm a seen) = came_to is_needed a (is_stale seen) sent
 has_refusal_cause config new_primary done sent (refusals.NotAcknowledged a (unackeds.Kept at)) = came_to is_needed a (is_kept at) sent
+has_refusal_cause config new_primary done sent (refusals.NotAcknowledged a (unackeds.NotTold since now)) =
+    list_any (λ s. is_wait_told s.call && alias_eq s.to a && is_not_told s.outcome && (s.sent == since) && is_some_of s.arrived now) sent
 has_refusal_cause config new_primary done sent (refusals.NotBuilt t) = list_any (says_intent t) done
 has_refusal_cause config new_primary done sent refusals.OutOfMemory = true
 

@@ -70,7 +70,8 @@ by_tablet config a none some = if_declared (tablet_of config.tablets a) none som
 
 -- the tablet answers
 abbrev pub asked : World → ℕ → ℕ → ℕ → Alias → Call → Tablet → World
-asked w k c u a call me = sends (on_tablet w a (after_call me u call (w.tablets a))) (contents.Answers c k a (answer_to me u call (w.tablets a)))
+asked w k c u a call me =
+    sends (on_tablet w a (after_call w.group me u call (w.tablets a))) (contents.Answers c k a (answer_to w.group me u call (w.tablets a)))
 
 -- the replica acknowledges what it takes
 abbrev pub fed : World → Alias → Alias → ℕ → ℕ → TabletState → Accepted → World

@@ -11,6 +11,7 @@ use Rattle.shard_calls.specs.declared.answer.Answer.{Answer}
 use Rattle.shard_calls.specs.declared.answer.Answer.TheVariants as answer
 use Rattle.shard_calls.specs.declared.stand.Stand.{Stand}
 use Rattle.shard_calls.specs.declared.stand.Stand.TheVariants as stand
+use Rattle.shard_calls.specs.Groups.{Group}
 use Rattle.shard_calls.specs.Logs.{newest_row, has_row, row_or_zero}
 use Rattle.shard_calls.specs.Tablets.{TabletState, opened, verdict, only_says, after_call, answer_to, accepts, after_ack, writes, writes_local, after_crash, restarts}
 use Rattle.shard_calls.specs.Moves.{TabletMove, TabletMoves}
@@ -91,7 +92,7 @@ FitsTerm u (call.SetSource source t p) = t ≤ u
 FitsTerm u (call.WaitTold until) = ⊤
 
 pub record AreMoves : Type 0 where
-  pub a_call : (me : Tablet) (u : ℕ) (c : Call) (s : TabletState) → FitsTerm u c → s.promised ≤ s.seen → TabletMove s (after_call me u c s)
+  pub a_call : (g : Group) (me : Tablet) (u : ℕ) (c : Call) (s : TabletState) → FitsTerm u c → s.promised ≤ s.seen → TabletMove s (after_call g me u c s)
   pub an_entry : (from : Alias) (term after index : ℕ) (e : Entry) (s : TabletState) → row_or_zero e ≤ term → TabletMove s (accepts from term after index e s).state
   pub an_ack : (from : Alias) (term index : ℕ) (s : TabletState) → TabletMove s (after_ack from term index s)
   pub a_write : (me : Tablet) (client number : ℕ) (s : TabletState) → TabletMove s (writes me client number s).state
@@ -108,6 +109,7 @@ IsRefusal (answer.Demoted newest position) = ⊥
 IsRefusal (answer.Promoted position) = ⊥
 IsRefusal answer.Joined = ⊥
 IsRefusal answer.Told = ⊥
+IsRefusal answer.NotTold = ⊤
 IsRefusal (answer.Kept at) = ⊤
 IsRefusal (answer.StaleTerm seen) = ⊤
 IsRefusal (answer.PromisedAhead promised) = ⊤
@@ -118,7 +120,8 @@ IsRefusal (answer.NotStanding newest) = ⊤
 -- a refused call changes at most the seen term
 abbrev pub RefusalChangesSeenAlone : Type 0
 RefusalChangesSeenAlone =
-    (me : Tablet) (u : ℕ) (c : Call) (s : TabletState) → IsRefusal (answer_to me u c s) → after_call me u c s ≡ record s { seen = (after_call me u c s).seen }
+    (g : Group) (me : Tablet) (u : ℕ) (c : Call) (s : TabletState) → IsRefusal (answer_to g me u c s)
+    → after_call g me u c s ≡ record s { seen = (after_call g me u c s).seen }
 
 -- a call that asks for something, in a term
 abbrev pub IsAsking : Call → Type 0
@@ -132,4 +135,4 @@ IsAsking (call.WaitTold until) = ⊤
 -- a term below the one seen is refused, and changes nothing
 abbrev pub StaleTermIsRefused : Type 0
 StaleTermIsRefused =
-    (me : Tablet) (u : ℕ) (c : Call) (s : TabletState) → IsAsking c → u < s.seen → verdict me u c s ≡ only_says s (answer.StaleTerm s.seen)
+    (g : Group) (me : Tablet) (u : ℕ) (c : Call) (s : TabletState) → IsAsking c → u < s.seen → verdict g me u c s ≡ only_says s (answer.StaleTerm s.seen)

@@ -1,5 +1,6 @@
 pub mod Logs
 pub mod Stands
+pub mod Groups
 pub mod Tablets
 pub mod Moves
 pub mod Laws

@@ -5,7 +5,7 @@ use Rattle.std.specs.Prelude.{ℕ, ◌+◌, ◌-◌, Bool, true, false, not, ◌
 use Rattle.std.specs.List.{list_any, list_all}
 use Rattle.shard_base.specs.Options.{◌>>=◌, only_if}
 use Rattle.shard_names.specs.declared.alias.Alias.{Alias}
-use Rattle.shard_names.specs.Tablets.{alias_eq}
+use Rattle.shard_names.specs.Tablets.{alias_eq, tablet_of}
 use Rattle.gtid_sets.specs.declared.entry.Entry.{Entry}
 use Rattle.shard_calls.specs.declared.call.Call.{Call}
 use Rattle.shard_calls.specs.declared.call.Call.TheVariants as calls
@@ -23,7 +23,7 @@ use Rattle.shard_calls.specs.declared.why.Why.{Why}
 use Rattle.shard_calls.specs.declared.why.Why.TheVariants as whys
 use Rattle.shard_calls.specs.Stands.{is_down, is_primary_of}
 use Rattle.shard_calls.specs.Logs.{holds, newest_row, place_of_row}
-use Rattle.shard_calls.specs.Tablets.{TabletState, is_told}
+use Rattle.shard_calls.specs.Tablets.{TabletState, is_told, is_row_told}
 use Rattle.shard_calls.specs.World.{World, numbered, open_command}
 
 -- ---- links
@@ -63,33 +63,37 @@ link_of (contents.Acks from to term index) = link_between from to
 
 -- ---- delivery
 
--- whether the row of the term is in the log and counts as committed
-abbrev pub is_row_told : TabletState → ℕ → Bool
-is_row_told s term = elim (place_of_row s.log term) [ Some index ↦ is_told s index | None ↦ false ]
+abbrev pub passes : {A : Type 0} → (A → Bool) → Option A → Bool
+passes test None = false
+passes test (Some x) = test x
+
+-- whether an index of this tablet's log counts as committed, and whether the row of a term does: where the alias is not declared, none does
+abbrev pub is_told_at : World → Alias → ℕ → Bool
+is_told_at w a index = passes (λ me. is_told w.group me (w.tablets a) index) (tablet_of w.group.tablets a)
+
+abbrev pub is_row_told_at : World → Alias → ℕ → Bool
+is_row_told_at w a term = passes (λ me. is_row_told w.group me (w.tablets a) term) (tablet_of w.group.tablets a)
 
 -- Whether a tablet answers a call of this term yet. Who asks whether a row is told waits until it is, or the tablet has left the term,
 -- or the moment has come.
-abbrev pub is_ready : World → TabletState → ℕ → Call → Bool
-is_ready w s u calls.Status = true
-is_ready w s u calls.Stop = true
-is_ready w s u calls.Demote = true
-is_ready w s u (calls.Promote p) = true
-is_ready w s u (calls.SetSource source t p) = true
-is_ready w s u (calls.WaitTold until) = nat_lt u s.seen || not (is_primary_of s.stand u) || is_row_told s u || nat_le until w.clock
+abbrev pub is_ready : World → Alias → ℕ → Call → Bool
+is_ready w a u calls.Status = true
+is_ready w a u calls.Stop = true
+is_ready w a u calls.Demote = true
+is_ready w a u (calls.Promote p) = true
+is_ready w a u (calls.SetSource source t p) = true
+is_ready w a u (calls.WaitTold until) =
+    nat_lt u (w.tablets a).seen || not (is_primary_of (w.tablets a).stand u) || is_row_told_at w a u || nat_le until w.clock
 
 -- whether the receiver takes it: a tablet that is not down, or a command that has not ended
 abbrev pub is_received : World → Content → Bool
-is_received w (contents.Asks command term to call) = not (is_down (w.tablets to).stand) && is_ready w (w.tablets to) term call
+is_received w (contents.Asks command term to call) = not (is_down (w.tablets to).stand) && is_ready w to term call
 is_received w (contents.Answers command asked from says) = is_some (open_command w command)
 is_received w (contents.Feeds from to term after index e) = not (is_down (w.tablets to).stand)
 is_received w (contents.Acks from to term index) = not (is_down (w.tablets to).stand)
 
 abbrev pub may_arrive : World → Message → Bool
 may_arrive w m = not m.lost && not (is_cut w.cuts (link_of m.content)) && is_received w m.content
-
-abbrev pub passes : {A : Type 0} → (A → Bool) → Option A → Bool
-passes test None = false
-passes test (Some x) = test x
 
 -- a message may be delivered, also again
 abbrev pub is_deliverable : World → ℕ → Bool

@@ -9,7 +9,8 @@ use Rattle.shard_calls.specs.declared.stand.Stand.{Stand}
 use Rattle.shard_calls.specs.declared.stand.Stand.TheVariants as stand
 use Rattle.shard_calls.specs.Stands.{waits_for}
 use Rattle.shard_calls.specs.Logs.{position_of, with_entry, with_own, row_term, row_or_zero, has_row, newest_row}
-use Rattle.shard_calls.specs.Tablets.{TabletState, none_acked, with_row}
+use Rattle.replication.specs.Acks.{Acked, none_acked}
+use Rattle.shard_calls.specs.Tablets.{TabletState, with_row}
 
 -- A stand that a promise of this term leads to, with this log: demoted is the primary of the newest row, and a replica begins with the first entry.
 abbrev pub ComesOfPromise : List Entry → ℕ → Stand → Type 0
@@ -35,7 +36,7 @@ pub data TabletMove : TabletState → TabletState → Type 0 where
   -- an entry of the tablet's own that is no row
   Writes : {s : TabletState} (me : Tablet) (k : Kind) → row_term k ≡ None → TabletMove s (record s { log = with_own me k s.log })
   -- what other tablets acknowledge
-  Hears : {s : TabletState} (acked : Alias → ℕ) → TabletMove s (record s { acked = acked })
+  Hears : {s : TabletState} (acked : Acked) → TabletMove s (record s { acked = acked })
   GoesDown : {s : TabletState} → TabletMove s (record s { stand = stand.Down })
   ComesUp : {s : TabletState} → TabletMove s (record s { stand = stand.Stopped; acked = none_acked })
 

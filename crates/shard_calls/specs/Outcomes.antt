@@ -1,4 +1,5 @@
--- What became of the calls of a command: the first of an answer that was delivered and of giving it up.
+-- What became of the calls of a command (Vitess manual, the calls of vtctld to its tablets): the first of an answer that was delivered and of
+-- giving it up.
 use Rattle.std.specs.Prelude.{ℕ, List, Option, Some, None, filter_map}
 use Rattle.shard_base.specs.Options.{◌>>=◌}
 use Rattle.shard_names.specs.declared.alias.Alias.{Alias}

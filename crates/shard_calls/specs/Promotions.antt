@@ -63,7 +63,7 @@ pub data TellsAt (config : Config) (w : World) : Step → Entry → ℕ → Type
       → numbered (w.tablets x.alias).log x.index ≡ Some e → TellsAt config w (record { event = events.Tell c; reply = replies.Told }) e x.term
   ToWait : (k n c t until index : ℕ) (a : Alias) (me : Tablet) (m : Message) (e : Entry) → numbered w.post k ≡ Some m
       → m.content ≡ contents.Asks c t a (calls.WaitTold until) → tablet_of config.tablets a ≡ Some me
-      → answer_to me t (calls.WaitTold until) (w.tablets a) ≡ says.Told → place_of_row (w.tablets a).log t ≡ Some index
+      → answer_to w.group me t (calls.WaitTold until) (w.tablets a) ≡ says.Told → place_of_row (w.tablets a).log t ≡ Some index
       → numbered (w.tablets a).log index ≡ Some e → TellsAt config w (record { event = events.Deliver k; reply = replies.Message n }) e t
 
 -- step i tells the entry in the term

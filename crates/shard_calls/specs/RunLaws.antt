@@ -1,20 +1,31 @@
 -- What holds of every history, step by step: the laws of the tablets and of the topology hold of each, and a term promotes once, as it was
 -- intended. After Sougoumarane's "Consensus algorithms at scale".
-use Rattle.std.specs.Prelude.{◌≡◌, ◌≤◌, ◌<◌, ℕ, List, Some, slice_get, take}
+use Rattle.std.specs.Prelude.{◌≡◌, ◌≤◌, ◌<◌, ℕ, true, List, Some, slice_get, take}
 use Rattle.shard_base.specs.Lists.{IsFront}
 use Rattle.shard_names.specs.declared.alias.Alias.{Alias}
+use Rattle.shard_names.specs.declared.tablet.Tablet.{Tablet}
+use Rattle.shard_names.specs.Tablets.{tablet_of}
 use Rattle.gtid_sets.specs.declared.entry.Entry.{Entry}
 use Rattle.gtid_sets.specs.declared.entry.Kind.TheVariants as kinds
 use Rattle.topo_lock.specs.Moves.{TopoMove}
 use Rattle.topo_lock.specs.Laws.{EachTermOnce}
+use Rattle.durability.specs.Policies.{rules_of}
+use Rattle.durability.specs.Sets.{TabletSet, Accepted}
+use Rattle.shard_calls.specs.declared.answer.Answer.TheVariants as says
+use Rattle.shard_calls.specs.declared.call.Call.TheVariants as calls
+use Rattle.shard_calls.specs.declared.event.Event.TheVariants as events
+use Rattle.shard_calls.specs.declared.event.Reply.TheVariants as replies
 use Rattle.shard_calls.specs.declared.event.Step.{Step}
 use Rattle.shard_calls.specs.declared.post.Content.TheVariants as contents
 use Rattle.shard_calls.specs.declared.post.Message.{Message}
+use Rattle.shard_calls.specs.Stands.{is_primary_of}
+use Rattle.shard_calls.specs.Logs.{holds}
+use Rattle.shard_calls.specs.Tablets.{answer_to}
 use Rattle.shard_calls.specs.Moves.{TabletMove}
 use Rattle.shard_calls.specs.Laws.{IsSound}
 use Rattle.shard_calls.specs.World.{Config, IsConfig, opening, numbered}
 use Rattle.shard_calls.specs.Table.{after, world_after, IsRun}
-use Rattle.shard_calls.specs.Promotions.{world_at}
+use Rattle.shard_calls.specs.Promotions.{world_at, IsTold}
 
 -- a law of histories
 abbrev pub OfEveryRun : (Config → List Step → Type 0) → Type 0
@@ -85,3 +96,37 @@ AcksAreHeld config steps = (k : ℕ) (m : Message) (from to : Alias) (term index
 abbrev pub NotedIsHeld : Config → List Step → Type 0
 NotedIsHeld config steps = (primary a : Alias)
     → HasFirst (log_after config steps a) (log_after config steps primary) (((world_after config (opening config) steps).tablets primary).acked a)
+
+-- ---- what is told, and what is not
+
+-- the tablets whose logs have the entry's transaction after so many steps
+abbrev pub having : Config → List Step → ℕ → Entry → TabletSet
+having config steps j e a = holds ((world_at config steps j).tablets a).log e.gtid
+
+-- at step i a declared tablet stands as the primary of the term, and from then on the policy accepts for it the tablets that have the entry
+pub record IsAcceptedFrom (config : Config) (steps : List Step) (i : ℕ) (e : Entry) (t : ℕ) : Type 0 where
+  pub primary : Tablet
+  pub declared : tablet_of config.tablets primary.alias ≡ Some primary
+  pub stands : is_primary_of ((world_at config steps i).tablets primary.alias).stand t ≡ true
+  pub accepted : (j : ℕ) → i ≤ j → Accepted (rules_of config.policy) config.tablets primary (having config steps j e)
+
+-- what is told in a term is held by as many tablets as the policy asks of the term's primary
+abbrev pub ToldIsAccepted : Config → List Step → Type 0
+ToldIsAccepted config steps = (i : ℕ) (e : Entry) (t : ℕ) → IsTold config steps i e t → IsAcceptedFrom config steps i e t
+
+-- step i delivers to this tablet a call of this term that waits, until a moment, for the row of the term to be told
+pub record AsksTold (config : Config) (steps : List Step) (i t until : ℕ) (me : Tablet) : Type 0 where
+  pub message : ℕ
+  pub reply : ℕ
+  pub command : ℕ
+  pub here : slice_get steps i ≡ Some (record { event = events.Deliver message; reply = replies.Message reply })
+  pub asks : Message
+  pub at : numbered (world_at config steps i).post message ≡ Some asks
+  pub carries : asks.content ≡ contents.Asks command t me.alias (calls.WaitTold until)
+  pub declared : tablet_of config.tablets me.alias ≡ Some me
+
+-- a tablet says that the row is not told only once the moment has come
+abbrev pub NotToldIsLate : Config → List Step → Type 0
+NotToldIsLate config steps = (i t until : ℕ) (me : Tablet) → AsksTold config steps i t until me
+    → answer_to (world_at config steps i).group me t (calls.WaitTold until) ((world_at config steps i).tablets me.alias) ≡ says.NotTold
+    → until ≤ (world_at config steps i).clock

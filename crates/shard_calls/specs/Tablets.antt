@@ -1,14 +1,17 @@
 -- One tablet, and what each call, entry, acknowledgement, write, crash and restart does to it. After Vitess's tablet manager (Vitess
 -- manual) and the terms of Sougoumarane's "Consensus algorithms at scale": who has seen a term refuses an older one, and who has
 -- promised a term accepts nothing more in an older one.
-use Rattle.std.specs.Prelude.{ℕ, ◌+◌, Bool, ◌||◌, ◌==◌, nat_lt, max, List, [], Some, None, if◌then◌else◌}
+use Rattle.std.specs.Prelude.{ℕ, ◌+◌, Bool, false, ◌&&◌, ◌||◌, ◌==◌, nat_lt, List, [], Some, None, if◌then◌else◌}
 use Rattle.shard_names.specs.declared.alias.Alias.{Alias}
 use Rattle.shard_names.specs.declared.tablet.Tablet.{Tablet}
-use Rattle.shard_names.specs.Tablets.{alias_eq}
 use Rattle.gtid_sets.specs.declared.entry.Entry.{Entry}
 use Rattle.gtid_sets.specs.declared.entry.Kind.{Kind}
 use Rattle.gtid_sets.specs.declared.entry.Kind.TheVariants as kind
 use Rattle.gtid_sets.specs.Position.{Position, covers, minus}
+use Rattle.durability.specs.Policies.{rules_of}
+use Rattle.durability.specs.Sets.{is_accepted}
+use Rattle.replication.specs.Acks.{Acked, none_acked, raised}
+use Rattle.replication.specs.Told.{holders}
 use Rattle.shard_calls.specs.declared.call.Call.{Call}
 use Rattle.shard_calls.specs.declared.call.Call.TheVariants as call
 use Rattle.shard_calls.specs.declared.answer.Answer.{Answer}
@@ -22,7 +25,8 @@ use Rattle.shard_calls.specs.declared.outcome.Restarted.TheVariants as restarted
 use Rattle.shard_calls.specs.declared.stand.Stand.{Stand}
 use Rattle.shard_calls.specs.declared.stand.Stand.TheVariants as stand
 use Rattle.shard_calls.specs.Stands.{is_down, is_primary, is_primary_of, is_replica_in, primary_term, takes_from, waits_for}
-use Rattle.shard_calls.specs.Logs.{position_of, with_entry, with_own, next_gtid, has_row, newest_row, newest_row_names}
+use Rattle.shard_calls.specs.Groups.{Group}
+use Rattle.shard_calls.specs.Logs.{position_of, with_entry, with_own, next_gtid, has_row, place_of_row, newest_row, newest_row_names}
 
 pub record TabletState : Type 0 where
   pub log : List Entry
@@ -31,11 +35,7 @@ pub record TabletState : Type 0 where
   pub promised : ℕ
   pub stand : Stand
   -- the greatest index that each tablet acknowledged in the primary's term, or 0
-  pub acked : Alias → ℕ
-
--- nothing is acknowledged
-abbrev pub none_acked : Alias → ℕ
-none_acked a = 0
+  pub acked : Acked
 
 -- a tablet that nothing has happened to
 abbrev pub opened : TabletState
@@ -100,24 +100,33 @@ joins source t p s =
     then record { state = record s { promised = t; stand = stand.Replica source t 1 }; says = answer.Joined }
     else only_says s (answer.Errant (minus (position_of s.log) p))
 
--- Without a durability policy every index of a primary's log counts as committed, and its log has the row of its term.
-abbrev pub waits_told : ℕ → TabletState → Verdict Answer
-waits_told u s = only_says s (if is_primary_of s.stand u then answer.Told else answer.Kept s.stand)
+-- Whether an index of the tablet's log counts as committed: the tablet is a primary, and the policy accepts those that hold the index as it knows.
+abbrev pub is_told : Group → Tablet → TabletState → ℕ → Bool
+is_told g me s index = is_primary s.stand && is_accepted (rules_of g.policy) g.tablets me (holders s.acked me.alias index)
+
+-- whether the row of the term is in the log and counts as committed
+abbrev pub is_row_told : Group → Tablet → TabletState → ℕ → Bool
+is_row_told g me s term = elim (place_of_row s.log term) [ Some index ↦ is_told g me s index | None ↦ false ]
+
+-- a primary of the term says whether the row of the term counts as committed
+abbrev pub waits_told : Group → Tablet → ℕ → TabletState → Verdict Answer
+waits_told g me u s =
+    only_says s (if is_primary_of s.stand u then (if is_row_told g me s u then answer.Told else answer.NotTold) else answer.Kept s.stand)
 
 -- what a tablet makes of a call of term u
-abbrev pub verdict : Tablet → ℕ → Call → TabletState → Verdict Answer
-verdict me u call.Status s = only_says s (status_of s)
-verdict me u call.Stop s = in_term u s (stops u)
-verdict me u call.Demote s = in_term u s (demotes me u)
-verdict me u (call.Promote p) s = in_term u s (promotes me u p)
-verdict me u (call.SetSource source t p) s = in_term u s (joins source t p)
-verdict me u (call.WaitTold until) s = in_term u s (waits_told u)
+abbrev pub verdict : Group → Tablet → ℕ → Call → TabletState → Verdict Answer
+verdict g me u call.Status s = only_says s (status_of s)
+verdict g me u call.Stop s = in_term u s (stops u)
+verdict g me u call.Demote s = in_term u s (demotes me u)
+verdict g me u (call.Promote p) s = in_term u s (promotes me u p)
+verdict g me u (call.SetSource source t p) s = in_term u s (joins source t p)
+verdict g me u (call.WaitTold until) s = in_term u s (waits_told g me u)
 
-abbrev pub after_call : Tablet → ℕ → Call → TabletState → TabletState
-after_call me u c s = (verdict me u c s).state
+abbrev pub after_call : Group → Tablet → ℕ → Call → TabletState → TabletState
+after_call g me u c s = (verdict g me u c s).state
 
-abbrev pub answer_to : Tablet → ℕ → Call → TabletState → Answer
-answer_to me u c s = (verdict me u c s).says
+abbrev pub answer_to : Group → Tablet → ℕ → Call → TabletState → Answer
+answer_to g me u c s = (verdict g me u c s).says
 
 -- ---- replication
 
@@ -130,14 +139,7 @@ accepts from term after index e s =
 
 -- a primary notes what a replica has
 abbrev pub after_ack : Alias → ℕ → ℕ → TabletState → TabletState
-after_ack from term index s =
-    if is_primary_of s.stand term
-    then record s { acked = λ a. if alias_eq a from then max index (s.acked a) else s.acked a }
-    else s
-
--- whether an index counts as committed: without a durability policy, at a primary, each does
-abbrev pub is_told : TabletState → ℕ → Bool
-is_told s index = is_primary s.stand
+after_ack from term index s = if is_primary_of s.stand term then record s { acked = raised from index s.acked } else s
 
 -- ---- writes
 

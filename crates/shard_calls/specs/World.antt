@@ -7,7 +7,9 @@ use Rattle.shard_base.specs.Options.{◌>>=◌, only_if}
 use Rattle.shard_names.specs.Tablets.{AreTablets, alias_eq, tablet_of}
 use Rattle.shard_names.specs.declared.alias.Alias.{Alias}
 use Rattle.shard_names.specs.declared.tablet.Tablet.{Tablet}
-use Rattle.shard_names.specs.declared.tablet.TabletType.TheVariants as kinds
+use Rattle.durability.specs.declared.policy.Durability.{Durability}
+use Rattle.durability.specs.Rules.{is_eligible}
+use Rattle.durability.specs.Policies.{rules_of}
 use Rattle.topo_lock.specs.Topology.{Topology, fresh}
 use Rattle.shard_calls.specs.declared.event.Link.{Link}
 use Rattle.shard_calls.specs.declared.event.Step.{Step}
@@ -17,30 +19,34 @@ use Rattle.shard_calls.specs.declared.post.Settled.{Settled}
 use Rattle.shard_calls.specs.declared.state.Act.{Act}
 use Rattle.shard_calls.specs.declared.state.ActorState.{ActorState}
 use Rattle.shard_calls.specs.declared.state.CommandState.{CommandState}
+use Rattle.shard_calls.specs.Groups.{Group}
 use Rattle.shard_calls.specs.Tablets.{TabletState, opened}
 
--- what does not change: the tablets, in alias order, and the moment at which the clock begins, in milliseconds since the start of 1970
+-- what does not change: the tablets, in alias order, the durability policy, and the moment at which the clock begins, in milliseconds since the
+-- start of 1970
 pub record Config : Type 0 where
   pub tablets : List Tablet
+  pub policy : Durability
   pub moment : ℕ
+
+abbrev pub group_of : Config → Group
+group_of config = record { tablets = config.tablets; policy = config.policy }
 
 -- the tablets are those of one shard
 pub record IsConfig (config : Config) : Type 0 where
   pub tablets : AreTablets config.tablets
 
--- Vitess's policy `none` gives replicas the rule neutral, and every other type must_not
-abbrev pub is_eligible : Tablet → Bool
-is_eligible t = elim t.kind [ kinds.Replica ↦ true | kinds.Rdonly ↦ false | kinds.Spare ↦ false ]
+abbrev pub may_be_promoted : Durability → Option Tablet → Bool
+may_be_promoted policy None = false
+may_be_promoted policy (Some t) = is_eligible (rules_of policy) t
 
-abbrev pub may_be_promoted : Option Tablet → Bool
-may_be_promoted None = false
-may_be_promoted (Some t) = is_eligible t
-
--- declared, and its rule is not must_not
+-- declared, and the policy's rule for it is not must_not
 abbrev pub is_eligible_alias : Config → Alias → Bool
-is_eligible_alias config a = may_be_promoted (tablet_of config.tablets a)
+is_eligible_alias config a = may_be_promoted config.policy (tablet_of config.tablets a)
 
 pub record World : Type 0 where
+  -- which never changes
+  pub group : Group
   pub tablets : Alias → TabletState
   -- the lock, the intents and the record
   pub topo : Topology
@@ -67,6 +73,7 @@ main_name = codes "main"
 -- empty logs, and nothing used, sent, cut, begun or past
 abbrev pub opening : Config → World
 opening config = record {
+  group = group_of config;
   tablets = λ a. opened;
   topo = fresh;
   post = [];

@@ -15,8 +15,9 @@ use Rattle.shard_calls.specs.declared.state.Act.TheVariants as acts
 use Rattle.shard_calls.specs.declared.state.CommandState.{CommandState}
 use Rattle.shard_calls.specs.declared.state.Wrote.{Wrote}
 use Rattle.shard_calls.specs.Stands.{is_primary_of, primary_term, standing_of}
-use Rattle.shard_calls.specs.Tablets.{TabletState, Verdict, is_told, writes}
+use Rattle.shard_calls.specs.Tablets.{TabletState, Verdict, writes}
 use Rattle.shard_calls.specs.World.{Config, World, on_tablet, on_command, with_act, numbered}
+use Rattle.shard_calls.specs.Messages.{is_told_at}
 use Rattle.shard_calls.specs.Deliveries.{by_tablet}
 
 -- ---- Write, Tell and Local
@@ -56,12 +57,12 @@ write_reply config w a None = replies.Ok
 write_reply config w a (Some s) = by_tablet config a replies.Ok (λ me. written_reply (write_verdict w a s me).says)
 
 -- whether what was written counts as committed, if that can be said
-abbrev pub tell_reply : TabletState → Wrote → Option Reply
-tell_reply s x = if is_primary_of s.stand x.term then only_if (is_told s x.index) replies.Told else Some replies.Gone
+abbrev pub tell_reply : World → Wrote → Option Reply
+tell_reply w x = if is_primary_of (w.tablets x.alias).stand x.term then only_if (is_told_at w x.alias x.index) replies.Told else Some replies.Gone
 
 -- a command that has ended may look again
 abbrev pub tell_of : World → ℕ → Option Reply
-tell_of w c = numbered w.commands c >>= (λ s. s.wrote >>= (λ x. tell_reply (w.tablets x.alias) x))
+tell_of w c = numbered w.commands c >>= (λ s. s.wrote >>= (λ x. tell_reply w x))
 
 -- what the command keeps of such a reply
 abbrev pub told_act : Reply → Option Act

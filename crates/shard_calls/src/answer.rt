@@ -30,6 +30,8 @@ pub enum Answer {
     Joined,
     /// The row of the term counts as committed.
     Told,
+    /// It is the primary of the term, whose row does not count as committed.
+    NotTold,
     /// It keeps the stand that it has.
     Kept {
         stand: Stand,

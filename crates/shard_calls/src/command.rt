@@ -31,6 +31,8 @@ pub enum Bar {
 /// Why a promotion does not count as committed.
 #[derive(Clone, Copy, Debug, PartialEq, Eq)]
 pub enum Unacked {
+    /// Too few tablets have acknowledged it. The call that waits for them was sent at `since`, and came to the tablet at `now`.
+    NotTold { since: u64, now: u64 },
     /// The tablet stands so, and not as the primary of the term.
     Kept { stand: Standing },
 }

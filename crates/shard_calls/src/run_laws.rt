@@ -3,7 +3,7 @@
 ghost use Rattle.shard_calls.specs.Promotions.{OnePromotion, PromotesIntended, HoldsTold, KeepsTold};
 ghost use Rattle.shard_calls.specs.Answered.{ActsAreSteps, AnswersHaveCauses, OutcomesAreSteps};
 ghost use Rattle.shard_calls.specs.Safe.{IsSafe};
-ghost use Rattle.shard_calls.specs.RunLaws.{OfEveryRun, TabletsMove, TopologyMoves, TabletsAreSound, LogsOnlyGrow, TermNeverFalls, OneIntent, OfEveryShard, OneEntry, LogsAreClosed, AcksAreHeld, NotedIsHeld};
+ghost use Rattle.shard_calls.specs.RunLaws.{OfEveryRun, TabletsMove, TopologyMoves, TabletsAreSound, LogsOnlyGrow, TermNeverFalls, OneIntent, OfEveryShard, OneEntry, LogsAreClosed, AcksAreHeld, NotedIsHeld, ToldIsAccepted, NotToldIsLate};
 
 /// Each step changes each tablet, and the topology, by one move.
 pub fn each_step_is_a_move()
@@ -62,6 +62,13 @@ pub fn logs_are_closed()
 pub fn acknowledged_is_held()
     ensures acks { OfEveryShard AcksAreHeld }
     ensures noted { OfEveryShard NotedIsHeld }
+{}
+
+/// What is told in a term is held by as many tablets as the durability policy asks of the term's primary, which stands where it is
+/// told; and that a row is not told is said only once the moment has come until which the call waits.
+pub fn told_is_accepted()
+    ensures told { OfEveryShard ToldIsAccepted }
+    ensures not_told { OfEveryRun NotToldIsLate }
 {}
 
 /// Each answer of a command has its cause; and what causes are read off is what the steps show: what a command did, and what first

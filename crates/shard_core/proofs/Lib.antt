@@ -1,3 +1,4 @@
 pub mod RoomLemmas
 pub mod RunLemmas
 pub mod OpeningLemmas
+pub mod FoundLemmas

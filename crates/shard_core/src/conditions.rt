@@ -1,6 +1,6 @@
 ghost use Rattle.std.specs.Prelude.{◌≡◌};
 ghost use Rattle.shard_calls.specs.Table.{meets, row_number};
-ghost use Rattle.shard_state.specs.State.{seen, data_of, config_in};
+ghost use Rattle.shard_state.specs.State.{seen, data_of, config_in, AreOfGroup};
 ghost use Rattle.changes.specs.Makes.{IsFound};
 
 use arrivals::is_deliverable;
@@ -14,6 +14,7 @@ use shard_state::{
 
 /// Whether the condition of the event's row holds, where this was found of it.
 pub(crate) fn meets(fields: &Fields, event: &Event, found: &Found) -> bool
+    requires group { AreOfGroup (data_of fields.now) }
     requires found { IsFound (seen (data_of fields.now)) event.now found.now }
     ensures { result ≡ meets (config_in (data_of fields.now)) (seen (data_of fields.now)) event.now }
 {
@@ -24,8 +25,7 @@ pub(crate) fn meets(fields: &Fields, event: &Event, found: &Found) -> bool
         Event::Take { command } => took_nothing(&fields.commands, *command),
         Event::Read { command } => term_of(&fields.commands, *command).is_some(),
         Event::Intend { command, alias } => {
-            term_of(&fields.commands, *command).is_some()
-                && is_eligible_alias(&fields.managers, alias)
+            term_of(&fields.commands, *command).is_some() && is_eligible_alias(fields, alias)
         }
         Event::Record { command, alias } => {
             let term = term_of(&fields.commands, *command);

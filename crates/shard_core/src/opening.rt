@@ -1,9 +1,11 @@
 //! The fields of a shard to which nothing has happened.
 
-ghost use Rattle.std.specs.Prelude.{◌≡◌, ◌<◌, ◌≤◌, ◌+◌, ◌∷◌, [], length, map, IfOk, OnOk};
+ghost use Rattle.std.specs.Prelude.{◌≡◌, ◌<◌, ◌≤◌, ◌+◌, ◌∷◌, [], length, IfOk, OnOk};
+ghost use Rattle.shard_names.specs.Tablets.{AreTablets};
 ghost use Rattle.shard_calls.specs.World.{idle_actor, main_name};
 ghost use Rattle.shard_core.specs.Opened.{AreOpened};
 
+use durability::Durability;
 use shard_base::OutOfMemory;
 use shard_calls::ActorState;
 use shard_names::{Name, Tablet};
@@ -11,20 +13,22 @@ use std::alloc::Global;
 use tablet_manager::Manager;
 
 /// The next tablet, to which nothing has happened, joins those before it.
-#[tactic(auto, using(crate::proofs::OpeningLemmas::among_self, crate::proofs::OpeningLemmas::opened_more))]
+#[tactic(auto, using(crate::proofs::OpeningLemmas::opened_more))]
 fn open_next(
     alloc: Global,
     managers: &mut Vec<Manager>,
     tablets: &[Tablet],
+    policy: Durability,
     at: usize,
 ) -> Result<(), OutOfMemory>
+    requires shard { AreTablets tablets.now }
     requires within { at < length tablets.now }
-    requires opened { AreOpened tablets.now at managers.old.items }
-    ensures { OnOk result (AreOpened tablets.now (at + 1) managers.new.items) }
+    requires opened { AreOpened (record { tablets = tablets.now; policy = policy }) at managers.old.items }
+    ensures { OnOk result (AreOpened (record { tablets = tablets.now; policy = policy }) (at + 1) managers.new.items) }
 {
     match tablets.get(at) {
         Some(tablet) => {
-            let manager = Manager::new(alloc, *tablet, tablets)?;
+            let manager = Manager::new(alloc, *tablet, tablets, policy)?;
             managers.push(manager)?;
             Ok(())
         }
@@ -32,16 +36,18 @@ fn open_next(
     }
 }
 
-/// The tablets, to which nothing has happened.
+/// The tablets of a shard with this policy, to which nothing has happened.
 pub(crate) fn opened_managers(
     alloc: Global,
     tablets: &[Tablet],
+    policy: Durability,
 ) -> Result<Vec<Manager>, OutOfMemory>
-    ensures { IfOk result (λ managers. AreOpened tablets.now (length tablets.now) managers.items) }
+    requires { AreTablets tablets.now }
+    ensures { IfOk result (λ managers. AreOpened (record { tablets = tablets.now; policy = policy }) (length tablets.now) managers.items) }
 {
     let mut managers = Vec::new(alloc);
     for at in 0..tablets.len() {
-        open_next(alloc, &mut managers, tablets, at)?;
+        open_next(alloc, &mut managers, tablets, policy, at)?;
     }
     Ok(managers)
 }

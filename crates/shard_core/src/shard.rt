@@ -1,10 +1,11 @@
-ghost use Rattle.std.specs.Prelude.{◌≡◌, ◌<◌, ◌≤◌, ◌↔◌, ◌++◌, ◌∷◌, ◌+◌, ◌-◌, ◌^◌, [], ℕ, true, false, length, nat_lt, IsTrue, IfOk, IsOk, OnOk, OnErr, IsErrOf, MatchOption, Some, None, vec_len, vec_capacity};
-ghost use Rattle.std.specs.Option.{option_copied};
+ghost use Rattle.std.specs.Prelude.{◌≡◌, ◌<◌, ◌≤◌, ◌↔◌, ◌++◌, ◌∷◌, ◌+◌, ◌-◌, ◌^◌, [], ℕ, true, false, length, nat_lt, IsTrue, IfOk, IsOk, OnOk, OnErr, IsErrOf, IfSome, MatchOption, Some, None, vec_len, vec_capacity};
+ghost use Rattle.std.specs.Option.{option_copied, option_map};
 ghost use Rattle.shard_names.specs.Tablets.{AreTablets, tablet_of};
-ghost use Rattle.shard_calls.specs.World.{open_of, open_command};
+ghost use Rattle.tablet_manager.specs.Managed.{state_of};
+ghost use Rattle.shard_calls.specs.World.{group_of, open_of, open_command};
 ghost use Rattle.shard_calls.specs.Table.{Met, meets, answer, row_number, IsRun};
 ghost use Rattle.shard_calls.specs.Safe.{IsSafe};
-ghost use Rattle.shard_state.specs.State.{Data, data_of, seen, config_in, world_seen};
+ghost use Rattle.shard_state.specs.State.{Data, data_of, seen, config_in, world_seen, AreOfGroup};
 ghost use Rattle.arrivals.specs.Arrivals.{next_due, next_offered};
 ghost use Rattle.changes.specs.Makes.{IsFound};
 ghost use Rattle.changes.specs.Makes as rows;
@@ -17,13 +18,15 @@ use crate::finding::find;
 use crate::opening::{opened_actors, opened_managers};
 use crate::room::owed_after;
 use changes::{Found, change};
+use durability::Durability;
 use post::Post;
 use shard_base::OutOfMemory;
 use shard_calls::{CommandState, Event, History, Reply, Seen, Standing, Step, Why};
 use shard_names::{Alias, Name, Tablet};
-use shard_state::{Fields, open_command, open_of, tablet_of};
+use shard_state::{Fields, manager_of, open_command, open_of, tablet_of};
 use std::alloc::Global;
 use std::marker::Model;
+use tablet_manager::Manager;
 use topo_lock::{Intent, Record, Topo};
 
 /// Why the machine made no step. It then stands as it was.
@@ -160,15 +163,20 @@ fn full(event: Event) -> Refused
 }
 
 impl Shard {
-    /// A shard of these tablets, in alias order, to which nothing has happened. Its clock begins at this moment, in milliseconds since the
-    /// start of 1970, before the year 9999.
-    pub fn new(alloc: Global, tablets: &[Tablet], moment: u64) -> Result<Shard, OutOfMemory>
+    /// A shard of these tablets, in alias order, to which nothing has happened. The policy says how many of them must acknowledge a primary's
+    /// writes, and which. The clock begins at this moment, in milliseconds since the start of 1970, before the year 9999.
+    pub fn new(
+        alloc: Global,
+        tablets: &[Tablet],
+        policy: Durability,
+        moment: u64,
+    ) -> Result<Shard, OutOfMemory>
         requires tablets { AreTablets tablets.now }
         requires few { length tablets.now ≤ 32 }
         requires begins { IsTrue (nat_lt moment 253370764800000) }
-        ensures { IfOk result (λ shard. shard ≡ record { config = record { tablets = tablets.now; moment = moment }; steps = [] }) }
+        ensures { IfOk result (λ shard. shard ≡ record { config = record { tablets = tablets.now; policy = policy; moment = moment }; steps = [] }) }
     {
-        let managers = opened_managers(alloc, tablets)?;
+        let managers = opened_managers(alloc, tablets, policy)?;
         let actors = opened_actors(alloc)?;
         let topo = Topo::new(alloc, tablets.len() as u64)?;
         let post = Post::new(alloc, tablets)?;
@@ -176,6 +184,7 @@ impl Shard {
             fields: Fields {
                 alloc,
                 managers,
+                policy,
                 moment,
                 topo,
                 post,
@@ -220,6 +229,7 @@ impl Shard {
         ensures world { world_seen (data_of result.now) self.now.steps ≡ world_of self.now }
         ensures tablets { AreTablets self.now.config.tablets }
         ensures begins { IsTrue (nat_lt self.now.config.moment 253370764800000) }
+        ensures group { AreOfGroup (data_of result.now) }
         ensures run { IsRun self.now.config self.now.steps }
     {
         &self.fields
@@ -244,6 +254,29 @@ impl Shard {
         ensures { result ≡ tablet_of self.now.config.tablets alias.now }
     {
         tablet_of(&self.fields.managers, alias)
+    }
+
+    /// The moment that the clock shows, in milliseconds since the start of 1970. It takes no memory.
+    pub fn clock(&self) -> u64
+        ensures { result ≡ (world_of self.now).clock }
+    {
+        self.fields.clock
+    }
+
+    /// The lock, the intents and the record. It takes no memory.
+    pub fn topo(&self) -> &Topo
+        ensures { result.now.topology ≡ (world_of self.now).topo }
+    {
+        &self.fields.topo
+    }
+
+    /// The manager of the tablet with this alias, if it is declared: how the tablet stands, and what it knows of its shard. It takes no memory.
+    pub fn manager(&self, alias: &Alias) -> Option<&Manager>
+        ensures tablet { option_map (λ manager. manager.me) (option_copied result) ≡ tablet_of self.now.config.tablets alias.now }
+        ensures group { IfSome (option_copied result) (λ manager. manager.group ≡ group_of self.now.config) }
+        ensures state { IfSome (option_copied result) (λ manager. state_of manager ≡ (world_of self.now).tablets alias.now) }
+    {
+        manager_of(&self.fields.managers, alias)
     }
 
     /// Whether the condition of the event's row holds. It takes no memory.

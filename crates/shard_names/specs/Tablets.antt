@@ -1,4 +1,5 @@
--- Lists of tablets: tests on aliases, and what makes a list of tablets one shard.
+-- Lists of tablets: tests on aliases, and what makes a list of tablets one shard. Tablets and shards are those of the Vitess manual, and each
+-- tablet's MySQL server has a server_uuid of its own (MySQL 8.0 manual).
 use Rattle.std.specs.Prelude.{◌≡◌, Bool, ◌&&◌, nat_eq, true, List, [], ◌∷◌, Option, is_some, All, ⊤}
 use Rattle.std.specs.List.{list_any, find}
 use Rattle.std.specs.Str.{bytes_eq}

@@ -13,6 +13,7 @@ use Rattle.shard_names.specs.declared.shard_name.ShardName.{ShardName}
 use Rattle.shard_names.specs.declared.tablet.Tablet.{Tablet as TabletData}
 use Rattle.shard_names.specs.Tablets.{alias_eq, ServersDiffer}
 use Rattle.shard_names.proofs.TabletLemmas.{alias_eq-Decides}
+use Rattle.durability.specs.declared.policy.Durability.{Durability}
 use Rattle.shard_calls.specs.declared.command.Command.TheVariants.{Planned, Write, Show}
 use Rattle.shard_script.specs.declared.line.Line.{Line}
 use Rattle.shard_script.specs.declared.line.Line.TheVariants.{Shard, Tablet, Act}
@@ -49,6 +50,7 @@ record Rest (s t : Script) (ls : List (List ℕ)) : Type 0 where
   say_tablets : AllZip IsTabletLine tablet_lines declared
   say_actions : AllZip IsActionLine action_lines done
   shard : t.shard ≡ s.shard
+  policy : t.policy ≡ s.policy
   tablets : t.tablets ≡ placed s.tablets declared
   actions : t.actions ≡ s.actions ++ done
   none_after : (s.actions ≡ [] → ⊥) → (tablet_lines ≡ []) × (declared ≡ [])
@@ -71,7 +73,7 @@ pub step_of : (place : ℕ) (s t : Script) (l : List ℕ) (ls : List (List ℕ))
 step_of place s t l ls got = step_by place s t l ls (ltb 1000 place) (with_bytes s l) refl refl got
 
 shard_kept : (s : Script) (name : ShardName) (line : Line) → s.shard ≡ Some name → admits s line ≡ true → (with_line s line).shard ≡ Some name
-shard_kept s name (Shard n) named ok = absurd (false≢true (ap (λ (o : Option ShardName). is_none o) (sym named) ∙ ok))
+shard_kept s name (Shard n p) named ok = absurd (false≢true (ap (λ (o : Option ShardName). is_none o) (sym named) ∙ ok))
 shard_kept s name (Tablet t) named ok = named
 shard_kept s name (Act x) named ok = named
 
@@ -104,7 +106,7 @@ tablet_tests s t ok =
     (nil_from_length s.actions (eqb-true (length s.actions) 0 p4.1), record { alias = not_true (has_alias s.tablets t.alias) p2.1; server = not_true (has_server s.tablets t.server) p1.1 })
 
 rest_with : (s t : Script) (name : ShardName) (l : List ℕ) (ls : List (List ℕ)) (line : Line) → s.shard ≡ Some name → Says l line → admits s line ≡ true → Rest (with_line s line) t ls → Rest s t (l ∷ ls)
-rest_with s t name l ls (Shard n) named says ok r = absurd (false≢true (ap (λ (o : Option ShardName). is_none o) (sym named) ∙ ok))
+rest_with s t name l ls (Shard n p) named says ok r = absurd (false≢true (ap (λ (o : Option ShardName). is_none o) (sym named) ∙ ok))
 rest_with s t name l ls (Tablet d) named says ok r =
     let tests = tablet_tests s d ok in
     record {
@@ -116,6 +118,7 @@ rest_with s t name l ls (Tablet d) named says ok r =
       say_tablets = (says, r.say_tablets);
       say_actions = r.say_actions;
       shard = r.shard;
+      policy = r.policy;
       tablets = r.tablets;
       actions = r.actions;
       none_after = λ some. absurd (some tests.0);
@@ -134,6 +137,7 @@ rest_with s t name l ls (Act x) named says ok r =
       say_tablets = tt;
       say_actions = (says, r.say_actions);
       shard = r.shard;
+      policy = r.policy;
       tablets = r.tablets ∙ ap (λ (y : List TabletData). placed s.tablets y) nothing.1;
       actions = r.actions ∙ append_assoc s.actions (x ∷ []) r.done;
       none_after = λ some. (refl, refl);
@@ -154,6 +158,7 @@ rest_of place s t name [] named got =
       say_tablets = tt;
       say_actions = tt;
       shard = refl;
+      policy = refl;
       tablets = refl;
       actions = sym (append-nil s.actions);
       none_after = λ some. (refl, refl);
@@ -200,8 +205,8 @@ of_this o name is (actions.Repeat message) h = tt
 of_this o name is actions.Lapse h = tt
 of_this o name is (actions.Tick milliseconds) h = tt
 
-first_line : (line : Line) → admits empty_script line ≡ true → (name : ShardName) × (line ≡ Shard name)
-first_line (Shard name) ok = (name, refl)
+first_line : (line : Line) → admits empty_script line ≡ true → (name : ShardName) × (policy : Durability) × (line ≡ Shard name policy)
+first_line (Shard name policy) ok = (name, policy, refl)
 first_line (Tablet t) ok = absurd (false≢true ok)
 first_line (Act x) ok = absurd (false≢true ok)
 
@@ -211,10 +216,10 @@ shard_script l ls t got =
     let step = step_of 1 empty_script t l ls got in
     let e = line_with_bytes empty_script step.next l step.added in
     let first = first_line e.0 e.2 in
-    let says : IsShardLine l first.0 = subst (λ (x : Line). Says l x) first.1 (says_of l e.0 e.1) in
-    let next : with_line empty_script (Shard first.0) ≡ step.next = subst (λ (x : Line). with_line empty_script x ≡ step.next) first.1 e.3 in
-    let got_rest : read_on 2 (with_line empty_script (Shard first.0)) ls ≡ Ok t = subst (λ (x : Script). read_on 2 x ls ≡ Ok t) (sym next) step.rest in
-    let r = rest_of 2 (with_line empty_script (Shard first.0)) t first.0 ls refl got_rest in
+    let says : IsShardLine l first.0 first.1 = subst (λ (x : Line). Says l x) first.2 (says_of l e.0 e.1) in
+    let next : with_line empty_script (Shard first.0 first.1) ≡ step.next = subst (λ (x : Line). with_line empty_script x ≡ step.next) first.2 e.3 in
+    let got_rest : read_on 2 (with_line empty_script (Shard first.0 first.1)) ls ≡ Ok t = subst (λ (x : Script). read_on 2 x ls ≡ Ok t) (sym next) step.rest in
+    let r = rest_of 2 (with_line empty_script (Shard first.0 first.1)) t first.0 ls refl got_rest in
     let tablets : IsPermutation r.declared t.tablets = subst (λ (xs : List TabletData). IsPermutation r.declared xs) (sym r.tablets) (permuted_all r.declared) in
     record {
       first = l;
@@ -223,7 +228,7 @@ shard_script l ls t got =
       split = ap (λ (x : List (List ℕ)). l ∷ x) r.split;
       name = first.0;
       declared = r.declared;
-      says_shard = says;
+      says_shard = subst (λ (p : Durability). IsShardLine l first.0 p) (sym r.policy) says;
       say_tablets = r.say_tablets;
       say_actions = subst (λ (xs : List Action). AllZip IsActionLine r.action_lines xs) (sym r.actions) r.say_actions;
       shard = r.shard;

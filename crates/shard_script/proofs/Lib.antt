@@ -2,6 +2,7 @@ pub mod OptionLemmas
 pub mod CommandLemmas
 pub mod LineLemmas
 pub mod NumberLemmas
+pub mod PolicyLemmas
 pub mod DurationLemmas
 pub mod TabletsInOrder
 pub mod NameLemmas

@@ -1,5 +1,5 @@
 -- A line is read exactly as the grammar has it.
-use Rattle.std.proofs.Common.{◌≡◌, ℕ, List, [], ◌∷◌, Bool, true, false, cond, eqb, Option, Some, None, length, refl, sym, ap, subst, ◌∙◌, arith}
+use Rattle.std.proofs.Common.{◌≡◌, ℕ, List, [], ◌∷◌, true, false, cond, eqb, Option, Some, None, length, refl, sym, ap, subst, ◌∙◌, arith}
 use Rattle.std.specs.Prelude.{codes, ◌==◌}
 use Rattle.std.specs.Result.{result_ok}
 use Rattle.std.specs.Str.{bytes_eq}
@@ -9,7 +9,7 @@ use Rattle.shard_base.specs.Options.{◌>>=◌, only_if}
 use Rattle.shard_names.specs.Alias.{alias_reading}
 use Rattle.shard_names.specs.ShardName.{shard_name_reading}
 use Rattle.shard_names.specs.declared.tablet.TabletType.{TabletType}
-use Rattle.shard_names.specs.declared.tablet.TabletType.TheVariants.{Replica, Spare}
+use Rattle.shard_names.specs.declared.tablet.TabletType.TheVariants.{Replica, Rdonly, Spare}
 use Rattle.shard_names.specs.declared.alias.Alias.{Alias}
 use Rattle.shard_calls.specs.declared.event.Link.{Link}
 use Rattle.shard_calls.specs.declared.event.Side.{Side}
@@ -23,12 +23,13 @@ use Rattle.shard_script.specs.Numbers.{number_reading, number_within, duration_r
 use Rattle.shard_script.specs.Names.{name_reading}
 use Rattle.shard_script.specs.Aliases.{are_ends}
 use Rattle.shard_script.specs.Commands.{command_of_two, command_of_four}
-use Rattle.shard_script.specs.Lines.{words_of, server_reading, kind_reading, shard_line, tablet_line, play_line, start_line, turn_line, finish_line, tick_line, local_line, crash_line, restart_line, side_reading, link_reading, cut_line, mend_line, lose_line, repeat_line, one_word, tablet_or_message, two_words, three_words, four_words, six_words, line_of_words, line_of}
+use Rattle.shard_script.specs.Lines.{words_of, server_reading, kind_reading, policy_reading, shard_line, tablet_line, play_line, start_line, turn_line, finish_line, tick_line, local_line, crash_line, restart_line, side_reading, link_reading, cut_line, mend_line, lose_line, repeat_line, one_word, tablet_or_message, two_words, three_words, four_words, six_words, line_of_words, line_of}
 use Rattle.shard_script.specs.Grammar.{IsTypeWord, IsCommand, IsOfTablet, IsSide, IsLinkLine, Says}
 use Rattle.shard_script.proofs.OptionLemmas.{cond_some, bind_some, only_if_some, ok_some, same_bytes, choose}
 use Rattle.shard_script.proofs.NumberLemmas.{number_of, number_small, within_of}
 use Rattle.shard_script.proofs.DurationLemmas.{duration_of}
 use Rattle.shard_script.proofs.NameLemmas.{name_of}
+use Rattle.shard_script.proofs.PolicyLemmas.{policy_of}
 use Rattle.shard_script.proofs.CommandLemmas.{IsGiven, two_of, four_of}
 
 -- ---- from what is read to what is said
@@ -36,16 +37,19 @@ use Rattle.shard_script.proofs.CommandLemmas.{IsGiven, two_of, four_of}
 says_shard : (line name policy : List ℕ) (x : Line) → words_of line ≡ codes "shard" ∷ name ∷ policy ∷ [] → shard_line name policy ≡ Some x → Says line x
 unfolding shard_line
 says_shard line name policy x words h =
-    let p = cond_some (bytes_eq policy (codes "none")) (shard_name_reading name >>= (λ n. Some (Shard n))) x h in
-    let q = bind_some (shard_name_reading name) (λ n. Some (Shard n)) x p.1 in
-    let is : Shard q.0 ≡ x = (let e : Some (Shard q.0) ≡ Some x = q.2 in cc) in
-    let none : policy ≡ codes "none" = same_bytes policy (codes "none") p.0 in
-    subst (λ (y : Line). Says line y) is (record { name_text = name; words = words ∙ ap (λ (t : List ℕ). codes "shard" ∷ name ∷ t ∷ []) none; name_is = q.1 })
+    let p = bind_some (shard_name_reading name) (λ n. policy_reading policy >>= (λ d. Some (Shard n d))) x h in
+    let q = bind_some (policy_reading policy) (λ d. Some (Shard p.0 d)) x p.2 in
+    let is : Shard p.0 q.0 ≡ x = (let e : Some (Shard p.0 q.0) ≡ Some x = q.2 in cc) in
+    subst (λ (y : Line). Says line y) is (record { name_text = name; words = words ∙ ap (λ (t : List ℕ). codes "shard" ∷ name ∷ t ∷ []) (policy_of policy q.0 q.1); name_is = p.1 })
 
-type_word : (text : List ℕ) (kind : TabletType) (a b : Bool) → (a ≡ true → text ≡ codes "replica") → (b ≡ true → text ≡ codes "spare") → cond a (Some Replica) (cond b (Some Spare) None) ≡ Some kind → IsTypeWord text kind
-type_word text kind true b is other h = let e : Replica ≡ kind = (cc) in subst (λ (k : TabletType). IsTypeWord text k) e (is refl)
-type_word text kind false true is other h = let e : Spare ≡ kind = (cc) in subst (λ (k : TabletType). IsTypeWord text k) e (other refl)
-type_word text kind false false is other h = absurd (cc)
+type_word : (text : List ℕ) (kind : TabletType) → kind_reading text ≡ Some kind → IsTypeWord text kind
+type_word text kind h =
+    let if_spare : Option TabletType = cond (bytes_eq text (codes "spare")) (Some Spare) None in
+    choose (IsTypeWord text kind) (bytes_eq text (codes "replica")) (Some Replica) (cond (bytes_eq text (codes "rdonly")) (Some Rdonly) if_spare) kind h
+    (λ is got. let e : Replica ≡ kind = (cc) in subst (λ (k : TabletType). IsTypeWord text k) e (same_bytes text (codes "replica") is))
+    (λ behind_replica. choose (IsTypeWord text kind) (bytes_eq text (codes "rdonly")) (Some Rdonly) if_spare kind behind_replica
+    (λ is got. let e : Rdonly ≡ kind = (cc) in subst (λ (k : TabletType). IsTypeWord text k) e (same_bytes text (codes "rdonly") is))
+    (λ last. let p = only_if_some (bytes_eq text (codes "spare")) Spare kind last in subst (λ (k : TabletType). IsTypeWord text k) p.1 (same_bytes text (codes "spare") p.0)))
 
 says_tablet : (line alias kind server : List ℕ) (x : Line) → words_of line ≡ codes "tablet" ∷ alias ∷ kind ∷ server ∷ [] → tablet_line alias kind server ≡ Some x → Says line x
 unfolding tablet_line
@@ -60,7 +64,7 @@ says_tablet line alias kind server x words h =
       server_text = server;
       words = words;
       alias_is = ok_some (alias_reading alias) p.0 p.1;
-      type_is = type_word kind q.0 (bytes_eq kind (codes "replica")) (bytes_eq kind (codes "spare")) (same_bytes kind (codes "replica")) (same_bytes kind (codes "spare")) q.1;
+      type_is = type_word kind q.0 q.1;
       server_is = r.1;
     })
 

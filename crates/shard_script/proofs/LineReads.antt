@@ -11,6 +11,8 @@ use Rattle.shard_names.specs.declared.shard_name.ShardName.{ShardName}
 use Rattle.shard_names.specs.declared.tablet.Tablet.{Tablet as TabletData}
 use Rattle.shard_names.specs.declared.tablet.TabletType.{TabletType}
 use Rattle.shard_names.specs.declared.tablet.TabletType.TheVariants.{Replica, Rdonly, Spare}
+use Rattle.durability.specs.declared.policy.Durability.{Durability}
+use Rattle.durability.specs.Policies.{policy_name}
 use Rattle.shard_calls.specs.declared.command.Command.{Command}
 use Rattle.shard_calls.specs.declared.command.Command.TheVariants.{Planned, Write, Show}
 use Rattle.shard_calls.specs.declared.event.Link.{Link}
@@ -23,23 +25,25 @@ use Rattle.shard_script.specs.declared.script.Action.TheVariants.{Play, Start, T
 use Rattle.shard_script.specs.Numbers.{number_reading, number_within}
 use Rattle.shard_script.specs.Names.{name_reading}
 use Rattle.shard_script.specs.Aliases.{are_ends}
-use Rattle.shard_script.specs.Lines.{words_of, server_reading, kind_reading, shard_line, tablet_line, play_line, start_line, turn_line, finish_line, tick_line, local_line, crash_line, restart_line, side_reading, link_reading, cut_line, mend_line, lose_line, repeat_line, line_of_words, line_of}
+use Rattle.shard_script.specs.Lines.{words_of, server_reading, kind_reading, policy_reading, shard_line, tablet_line, play_line, start_line, turn_line, finish_line, tick_line, local_line, crash_line, restart_line, side_reading, link_reading, cut_line, mend_line, lose_line, repeat_line, line_of_words, line_of}
 use Rattle.shard_script.specs.Grammar.{IsShardLine, IsTypeWord, IsTabletLine, IsCommand, IsOfTablet, IsStartLine, IsTurnLine, IsFinishLine, IsSettleLine, IsLapseLine, IsTickLine, IsCrashLine, IsSide, IsLinkLine, IsMessageLine, Says}
 use Rattle.shard_script.proofs.OptionLemmas.{same_bytes}
 use Rattle.shard_script.proofs.NumberLemmas.{number_reads, within_reads}
 use Rattle.shard_script.proofs.DurationLemmas.{duration_reads}
 use Rattle.shard_script.proofs.NameLemmas.{name_reads, not_same}
 use Rattle.shard_script.proofs.CommandLemmas.{planned_is, write_is, write_to_is, show_is}
+use Rattle.shard_script.proofs.PolicyLemmas.{policy_is}
 
-shard_read : (line : List ℕ) (name : ShardName) → IsShardLine line name → line_of line ≡ Some (Shard name)
+shard_read : (line : List ℕ) (name : ShardName) (policy : Durability) → IsShardLine line name policy → line_of line ≡ Some (Shard name policy)
 unfolding line_of_words shard_line
-shard_read line name h =
+shard_read line name policy h =
     ap (λ (ws : List (List ℕ)). line_of_words ws) h.words
-    ∙ ap (λ (o : Option ShardName). option_and_then (λ n. Some (Shard n)) o) h.name_is
+    ∙ ap (λ (o : Option ShardName). option_and_then (λ n. policy_reading (policy_name policy) >>= (λ d. Some (Shard n d))) o) h.name_is
+    ∙ ap (λ (o : Option Durability). option_and_then (λ d. Some (Shard name d)) o) (policy_is policy)
 
 kind_is : (text : List ℕ) (kind : TabletType) → IsTypeWord text kind → kind_reading text ≡ Some kind
 kind_is text Replica h = ap (λ (t : List ℕ). kind_reading t) h
-kind_is text Rdonly h = absurd h
+kind_is text Rdonly h = ap (λ (t : List ℕ). kind_reading t) h
 kind_is text Spare h = ap (λ (t : List ℕ). kind_reading t) h
 
 tablet_read : (line : List ℕ) (t : TabletData) → IsTabletLine line t → line_of line ≡ Some (Tablet t)
@@ -189,7 +193,7 @@ tick_read line n h =
     }))
 
 pub of_says : (line : List ℕ) (x : Line) → Says line x → line_of line ≡ Some x
-of_says line (Shard name) h = shard_read line name h
+of_says line (Shard name policy) h = shard_read line name policy h
 of_says line (Tablet t) h = tablet_read line t h
 of_says line (Act (Play command n)) h = play_read line command n h
 of_says line (Act (Start name command)) h = start_read line name command h

@@ -11,6 +11,8 @@ use borrow.Author.Tests.{ltb-false}
 use Rattle.shard_names.specs.declared.shard_name.ShardName.{ShardName}
 use Rattle.shard_names.specs.declared.tablet.Tablet.{Tablet as TabletData}
 use Rattle.shard_names.specs.Tablets.{AreTablets}
+use Rattle.durability.specs.declared.policy.Durability.{Durability}
+use Rattle.durability.specs.declared.policy.Durability.TheVariants as policies
 use Rattle.shard_calls.specs.declared.command.Command.TheVariants.{Planned, Write, Show}
 use Rattle.shard_script.specs.declared.line.Line.{Line}
 use Rattle.shard_script.specs.declared.line.Line.TheVariants.{Shard, Tablet, Act}
@@ -40,6 +42,7 @@ record SoFar (place : ℕ) (s : Script) : Type 0 where
   tablets : AreTablets s.tablets
   few_tablets : length s.tablets ≤ 32
   named : s.shard ≡ None → (s.tablets ≡ []) × (s.actions ≡ [])
+  unnamed : s.shard ≡ None → s.policy ≡ policies.None
   actions : All (FitsShard s.shard) s.actions
   few : length s.actions < place
   declared : All (NamesDeclared s.tablets) s.actions
@@ -69,13 +72,13 @@ CountedAction actions.Lapse = ⊤
 CountedAction (actions.Tick milliseconds) = milliseconds ≤ 86400000
 
 Counted : Line → Type 0
-Counted (Shard name) = ⊤
+Counted (Shard name policy) = ⊤
 Counted (Tablet t) = ⊤
 Counted (Act x) = CountedAction x
 
 counted : (line : List ℕ) (x : Line) → Says line x → Counted x
 unfolding Counted CountedAction
-counted line (Shard name) h = tt
+counted line (Shard name policy) h = tt
 counted line (Tablet t) h = tt
 counted line (Act (actions.Play (Planned name a) n)) h = h.1
 counted line (Act (actions.Play (Write None) n)) h = (h.from_one, h.to_hundred)
@@ -111,13 +114,14 @@ shard_is (Some s) name h =
     let shard : s.shard ≡ name.shard = (bytes_eq-Decides s.shard name.shard).0 tests.1 in
     λ i. Some (record { keyspace = keyspace i; shard = shard i })
 
-one_shard : (place : ℕ) (s : Script) (name : ShardName) → SoFar place s → is_none s.shard ≡ true → SoFar (place + 1) (with_line s (Shard name))
-one_shard place s name h ok =
+one_shard : (place : ℕ) (s : Script) (name : ShardName) (policy : Durability) → SoFar place s → is_none s.shard ≡ true → SoFar (place + 1) (with_line s (Shard name policy))
+one_shard place s name policy h ok =
     let empty = h.named (none_is s.shard ok) in
     record {
       tablets = h.tablets;
       few_tablets = h.few_tablets;
-      named = λ unnamed. absurd (cc);
+      named = λ none. absurd (cc);
+      unnamed = λ none. absurd (cc);
       actions = subst (λ (xs : List Action). All (FitsShard (Some name)) xs) (sym empty.1) (All-nil (FitsShard (Some name)));
       few = omega (arith, h.few);
       declared = h.declared;
@@ -143,7 +147,8 @@ one_tablet place s t h ok =
         apart = apart-in_place t s.tablets h.tablets.apart (not_true (has_server s.tablets t.server) p1.1);
       };
       few_tablets = omega (arith, few, length-in_place t s.tablets);
-      named = λ unnamed. absurd (some_not s.shard p4.0 unnamed);
+      named = λ none. absurd (some_not s.shard p4.0 none);
+      unnamed = h.unnamed;
       actions = h.actions;
       few = omega (arith, h.few);
       declared = subst (λ (xs : List Action). All (NamesDeclared (in_place t s.tablets)) xs) (sym none) (All-nil (NamesDeclared (in_place t s.tablets)));
@@ -246,7 +251,8 @@ one_action place s x count h ok =
     record {
       tablets = h.tablets;
       few_tablets = h.few_tablets;
-      named = λ unnamed. absurd (some_not s.shard tests.0 unnamed);
+      named = λ none. absurd (some_not s.shard tests.0 none);
+      unnamed = h.unnamed;
       actions = All-append (FitsShard s.shard) s.actions (x ∷ []) h.actions (All-cons (FitsShard s.shard) x [] (fits_one s x count tests.1) (All-nil (FitsShard s.shard)));
       few = omega (arith, h.few, length-append s.actions (x ∷ []));
       declared = All-append (NamesDeclared s.tablets) s.actions (x ∷ []) h.declared (All-cons (NamesDeclared s.tablets) x [] (names_declared s.tablets x declared.1) (All-nil (NamesDeclared s.tablets)));
@@ -259,7 +265,7 @@ one_action place s x count h ok =
 
 one_line : (place : ℕ) (s : Script) (line : Line) → Counted line → SoFar place s → admits s line ≡ true → SoFar (place + 1) (with_line s line)
 unfolding Counted
-one_line place s (Shard name) count h ok = one_shard place s name h ok
+one_line place s (Shard name policy) count h ok = one_shard place s name policy h ok
 one_line place s (Tablet t) count h ok = one_tablet place s t h ok
 one_line place s (Act x) count h ok = one_action place s x count h ok
 
@@ -290,14 +296,15 @@ on_more place s t l ls false (Some u) past with h got rest = rest u (one_more pl
 fits_on : (place : ℕ) (s t : Script) (ls : List (List ℕ)) → SoFar place s → place ≤ 1001 → read_on place s ls ≡ Ok t → Fits t
 fits_on place s t [] h le got =
     let same : s ≡ t = (let e : Ok s ≡ Ok t = got in cc) in
-    subst (λ (x : Script). Fits x) same (record { tablets = h.tablets; few_tablets = h.few_tablets; named = h.named; actions = h.actions; few_actions = omega (arith, h.few); declared = h.declared; starts = h.starts; are_names = h.are_names; few_names = h.few_names; names_differ = h.names_differ; known = h.known })
+    subst (λ (x : Script). Fits x) same (record { tablets = h.tablets; few_tablets = h.few_tablets; named = h.named; unnamed = h.unnamed; actions = h.actions; few_actions = omega (arith, h.few); declared = h.declared; starts = h.starts; are_names = h.are_names; few_names = h.few_names; names_differ = h.names_differ; known = h.known })
 fits_on place s t (l ∷ ls) h le got = on_more place s t l ls (ltb 1000 place) (with_bytes s l) refl refl h got (λ u k less more. fits_on (place + 1) u t ls k less more)
 
 opening : SoFar 1 empty_script
 opening = record {
   tablets = record { in_order = tt; apart = tt };
   few_tablets = omega arith;
-  named = λ unnamed. (refl, refl);
+  named = λ none. (refl, refl);
+  unnamed = λ none. refl;
   actions = All-nil (FitsShard None);
   few = omega arith;
   declared = All-nil (NamesDeclared []);

@@ -134,25 +134,25 @@ actions_on place s name (l ∷ al) (x ∷ xs) said named of declared known diffe
 
 shard_read : (lines : List (List ℕ)) (s : Script) → length lines ≤ 1000 → IsShardScript lines s → read_lines lines ≡ Ok s
 shard_read lines s few g =
-    let named : Script = with_line empty_script (Shard g.name) in
+    let named : Script = with_line empty_script (Shard g.name s.policy) in
     let size : length (g.tablet_lines ++ g.action_lines) ≡ length g.tablet_lines + length g.action_lines = length-append g.tablet_lines g.action_lines in
     let all_lines : length lines ≡ suc (length (g.tablet_lines ++ g.action_lines)) = ap (λ (ls : List (List ℕ)). length ls) g.split in
     let tablets : Script = record named { tablets = placed [] g.declared } in
     let declared : (al : List (List ℕ)) → read_lines (g.first ∷ (g.tablet_lines ++ al)) ≡ read_on (2 + length g.tablet_lines) tablets al = λ al.
-    step_on 1 empty_script named g.first (g.tablet_lines ++ al) (omega arith) (added_is empty_script g.first (Shard g.name) g.says_shard refl)
+    step_on 1 empty_script named g.first (g.tablet_lines ++ al) (omega arith) (added_is empty_script g.first (Shard g.name s.policy) g.says_shard refl)
     ∙ tablets_on 2 named g.name g.tablet_lines al g.declared g.say_tablets refl refl (omega (arith, g.few_tablets)) (λ k d lt. record { alias = refl; server = refl }) g.aliases_differ g.servers_differ (omega (arith, few, size, all_lines)) in
     let rise : AliasesRise (placed [] g.declared) = (fits_lines (g.first ∷ (g.tablet_lines ++ [])) tablets (declared [])).tablets.in_order in
     let here = permuted_all g.declared in
     let same : placed [] g.declared ≡ s.tablets = rises_once (placed [] g.declared) s.tablets rise g.in_order
     (λ P h. All-permutation P g.declared s.tablets g.tablets (All-permutation P (placed [] g.declared) g.declared (IsPermutation-sym g.declared (placed [] g.declared) here) h))
     (λ P h. All-permutation P g.declared (placed [] g.declared) here (All-permutation P s.tablets g.declared (IsPermutation-sym g.declared s.tablets g.tablets) h)) in
-    let got : read_lines lines ≡ Ok (record { shard = Some g.name; tablets = placed [] g.declared; names = started s.actions; actions = s.actions }) =
+    let got : read_lines lines ≡ Ok (record { shard = Some g.name; policy = s.policy; tablets = placed [] g.declared; names = started s.actions; actions = s.actions }) =
     ap (λ (ls : List (List ℕ)). read_lines ls) g.split
     ∙ declared g.action_lines
     ∙ actions_on (2 + length g.tablet_lines) tablets g.name g.action_lines s.actions g.say_actions refl g.of_shard (subst (λ (ts : List TabletData). All (NamesDeclared ts) s.actions) (sym same) g.are_declared) g.known (subst NamesDiffer g.names g.names_differ) (subst (λ (ns : List (List ℕ)). length ns ≤ 16) g.names g.few_names) (omega (arith, few, size, all_lines)) in
     let shard : Some g.name ≡ s.shard = sym g.shard in
     let names : started s.actions ≡ s.names = sym g.names in
-    let whole : record { shard = Some g.name; tablets = placed [] g.declared; names = started s.actions; actions = s.actions } ≡ s = λ i. record { shard = shard i; tablets = same i; names = names i; actions = s.actions } in
+    let whole : record { shard = Some g.name; policy = s.policy; tablets = placed [] g.declared; names = started s.actions; actions = s.actions } ≡ s = λ i. record { shard = shard i; policy = s.policy; tablets = same i; names = names i; actions = s.actions } in
     got ∙ ap (λ (t : Script). Ok t) whole
 
 script_read : (lines : List (List ℕ)) (s : Script) → length lines ≤ 1000 → IsScript lines s → read_lines lines ≡ Ok s

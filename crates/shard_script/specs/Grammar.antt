@@ -12,6 +12,8 @@ use Rattle.shard_names.specs.declared.tablet.Tablet.{Tablet as TabletData}
 use Rattle.shard_names.specs.declared.tablet.TabletType.{TabletType}
 use Rattle.shard_names.specs.declared.tablet.TabletType.TheVariants.{Replica, Rdonly, Spare}
 use Rattle.shard_names.specs.Tablets.{AliasesRise, ServersDiffer}
+use Rattle.durability.specs.declared.policy.Durability.{Durability}
+use Rattle.durability.specs.Policies.{policy_name}
 use Rattle.shard_calls.specs.declared.command.Command.{Command}
 use Rattle.shard_calls.specs.declared.command.Command.TheVariants.{Planned, Write, Show}
 use Rattle.shard_calls.specs.declared.event.Side.{Side}
@@ -26,16 +28,16 @@ use Rattle.shard_script.specs.Aliases.{NamesDeclared, are_ends}
 use Rattle.shard_script.specs.Lines.{words_of, server_reading}
 use Rattle.shard_script.specs.Script.{empty_script, lines_of, ended_lines, first_bytes, reading}
 
--- `shard K/S none`
-pub record IsShardLine (line : List ℕ) (name : ShardName) : Type 0 where
+-- `shard K/S POLICY`: one of the five, by its name
+pub record IsShardLine (line : List ℕ) (name : ShardName) (policy : Durability) : Type 0 where
   pub name_text : List ℕ
-  pub words : words_of line ≡ codes "shard" ∷ name_text ∷ codes "none" ∷ []
+  pub words : words_of line ≡ codes "shard" ∷ name_text ∷ policy_name policy ∷ []
   pub name_is : shard_name_reading name_text ≡ Some name
 
--- `replica` or `spare`
+-- `replica`, `rdonly` or `spare`
 abbrev pub IsTypeWord : List ℕ → TabletType → Type 0
 IsTypeWord text Replica = text ≡ codes "replica"
-IsTypeWord text Rdonly = ⊥
+IsTypeWord text Rdonly = text ≡ codes "rdonly"
 IsTypeWord text Spare = text ≡ codes "spare"
 
 -- `tablet ALIAS TYPE UUID`
@@ -190,7 +192,7 @@ IsActionLine line (actions.Tick milliseconds) = IsTickLine line milliseconds
 
 -- what a line says
 abbrev pub Says : List ℕ → Line → Type 0
-Says line (Shard name) = IsShardLine line name
+Says line (Shard name policy) = IsShardLine line name policy
 Says line (Tablet t) = IsTabletLine line t
 Says line (Act action) = IsActionLine line action
 
@@ -232,7 +234,7 @@ pub record IsShardScript (lines : List (List ℕ)) (s : Script) : Type 0 where
   -- each line says its part
   pub name : ShardName
   pub declared : List TabletData
-  pub says_shard : IsShardLine first name
+  pub says_shard : IsShardLine first name s.policy
   pub say_tablets : AllZip IsTabletLine tablet_lines declared
   pub say_actions : AllZip IsActionLine action_lines s.actions
   -- the script has the declared tablets in alias order

@@ -1,5 +1,5 @@
 -- The lines of a script, one by one: words parted by single spaces, with the names and UUIDs of the Vitess manual's commands.
-use Rattle.std.specs.Prelude.{ℕ, List, [], ◌==◌, Option, Some, None, if◌then◌else◌, length, slice_index_or, codes}
+use Rattle.std.specs.Prelude.{ℕ, List, [], ◌∷◌, ◌==◌, Option, Some, None, if◌then◌else◌, length, slice_index_or, find, codes}
 use Rattle.std.specs.List.{slice_split}
 use Rattle.std.specs.Result.{result_ok}
 use Rattle.std.specs.Str.{bytes_eq}
@@ -8,7 +8,10 @@ use Rattle.shard_base.specs.Options.{◌>>=◌, only_if}
 use Rattle.shard_names.specs.Alias.{alias_reading}
 use Rattle.shard_names.specs.ShardName.{shard_name_reading}
 use Rattle.shard_names.specs.declared.tablet.TabletType.{TabletType}
-use Rattle.shard_names.specs.declared.tablet.TabletType.TheVariants.{Replica, Spare}
+use Rattle.shard_names.specs.declared.tablet.TabletType.TheVariants.{Replica, Rdonly, Spare}
+use Rattle.durability.specs.declared.policy.Durability.{Durability}
+use Rattle.durability.specs.declared.policy.Durability.TheVariants as policies
+use Rattle.durability.specs.Policies.{policy_name}
 use Rattle.shard_calls.specs.declared.event.Link.{Link}
 use Rattle.shard_calls.specs.declared.event.Side.{Side}
 use Rattle.shard_calls.specs.declared.event.Side.TheVariants as sides
@@ -36,13 +39,21 @@ server_reading text = if length text == 36 then parsed text else None
 abbrev pub kind_reading : List ℕ → Option TabletType
 kind_reading text =
     if bytes_eq text (codes "replica") then Some Replica
+    else if bytes_eq text (codes "rdonly") then Some Rdonly
     else if bytes_eq text (codes "spare") then Some Spare
     else None
 
--- `shard K/S none`
+-- the policy of a name: one of the five
+unfoldable pub policy_reading : List ℕ → Option Durability
+policy_reading name =
+    find (λ p. bytes_eq (policy_name p) name) (policies.None ∷ policies.SemiSync ∷ policies.CrossCell ∷ policies.SemiSyncWithRdonlyAck ∷ policies.CrossCellWithRdonlyAck ∷ [])
+
+-- `shard K/S POLICY`
 unfoldable pub shard_line : List ℕ → List ℕ → Option Line
-shard_line name policy = if bytes_eq policy (codes "none")
-    then (shard_name_reading name >>= (λ n. Some (Shard n))) else None
+shard_line name policy = do
+  n ← shard_name_reading name
+  p ← policy_reading policy
+  Some (Shard n p)
 
 -- `tablet ALIAS TYPE UUID`
 unfoldable pub tablet_line : List ℕ → List ℕ → List ℕ → Option Line

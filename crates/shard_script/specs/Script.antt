@@ -7,6 +7,7 @@ use Rattle.shard_names.specs.Tablets.{alias_eq, alias_cmp, AreTablets}
 use Rattle.shard_names.specs.declared.alias.Alias.{Alias}
 use Rattle.shard_names.specs.declared.shard_name.ShardName.{ShardName}
 use Rattle.shard_names.specs.declared.tablet.Tablet.{Tablet as TabletData}
+use Rattle.durability.specs.declared.policy.Durability.TheVariants as policies
 use Rattle.shard_calls.specs.declared.command.Command.{Command}
 use Rattle.shard_calls.specs.declared.command.Command.TheVariants.{Planned, Write, Show}
 use Rattle.shard_script.specs.declared.line.Line.{Line}
@@ -87,17 +88,17 @@ admits_action s (actions.Tick milliseconds) = true
 
 -- whether a line may stand behind the script so far
 abbrev pub admits : Script → Line → Bool
-admits s (Shard name) = is_none s.shard
+admits s (Shard name policy) = is_none s.shard
 admits s (Tablet t) = admits_tablet s t
 admits s (Act action) = is_some s.shard && admits_action s action && all_declared s.tablets action
 
 abbrev pub with_line : Script → Line → Script
-with_line s (Shard name) = record s { shard = Some name }
+with_line s (Shard name p) = record s { shard = Some name; policy = p }
 with_line s (Tablet t) = record s { tablets = in_place t s.tablets }
 with_line s (Act action) = record s { names = s.names ++ started_by action; actions = s.actions ++ action ∷ [] }
 
 abbrev pub empty_script : Script
-empty_script = record { shard = None; tablets = []; names = []; actions = [] }
+empty_script = record { shard = None; policy = policies.None; tablets = []; names = []; actions = [] }
 
 -- the script with one more line, if it may stand there
 unfoldable pub with_bytes : Script → List ℕ → Option Script
@@ -182,6 +183,7 @@ pub record Fits (s : Script) : Type 0 where
   pub tablets : AreTablets s.tablets
   pub few_tablets : length s.tablets ≤ 32
   pub named : s.shard ≡ None → (s.tablets ≡ []) × (s.actions ≡ [])
+  pub unnamed : s.shard ≡ None → s.policy ≡ policies.None
   pub actions : All (FitsShard s.shard) s.actions
   pub few_actions : length s.actions ≤ 1000
   -- where an action names a tablet that has to be declared, it is

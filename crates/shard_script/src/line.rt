@@ -3,11 +3,12 @@ ghost use Rattle.std.specs.List.{list_all};
 ghost use Rattle.shard_script.specs.Names.{is_name_byte, begins_with_letter, is_taken, name_reading};
 ghost use Rattle.shard_script.specs.Aliases.{are_ends};
 ghost use Rattle.shard_script.specs.Commands.{command_of_two, command_of_four};
-ghost use Rattle.shard_script.specs.Lines.{parts_of, server_reading, kind_reading, shard_line, tablet_line, play_line, start_line, turn_line, finish_line, tick_line, local_line, crash_line, restart_line, side_reading, link_reading, cut_line, mend_line, lose_line, repeat_line, one_word, tablet_or_message, two_words, three_words, four_words, six_words, line_of_words, line_of};
+ghost use Rattle.shard_script.specs.Lines.{parts_of, server_reading, kind_reading, policy_reading, shard_line, tablet_line, play_line, start_line, turn_line, finish_line, tick_line, local_line, crash_line, restart_line, side_reading, link_reading, cut_line, mend_line, lose_line, repeat_line, one_word, tablet_or_message, two_words, three_words, four_words, six_words, line_of_words, line_of};
 
 use crate::command::{Given, command_of_four, command_of_two};
 use crate::number::{read_duration, read_number, read_within};
 use crate::script::Action;
+use durability::{Durability, read_policy};
 use shard_base::{OutOfMemory, Text};
 use shard_calls::{Link, Side};
 use shard_names::{Alias, Name, ShardName, Tablet, TabletType};
@@ -17,8 +18,8 @@ use uuid::Uuid;
 /// A line of a script.
 #[derive(Clone, Copy)]
 pub enum Line {
-    /// The shard's name.
-    Shard { name: ShardName },
+    /// The shard's name, and its durability policy.
+    Shard { name: ShardName, policy: Durability },
     /// One of its tablets.
     Tablet { tablet: Tablet },
     /// What is done to it.
@@ -76,6 +77,8 @@ fn read_kind(text: &[u8]) -> Option<TabletType>
 {
     if text == b"replica".as_slice() {
         Some(TabletType::Replica)
+    } else if text == b"rdonly".as_slice() {
+        Some(TabletType::Rdonly)
     } else if text == b"spare".as_slice() {
         Some(TabletType::Spare)
     } else {
@@ -83,15 +86,20 @@ fn read_kind(text: &[u8]) -> Option<TabletType>
     }
 }
 
+/// The policy of this name, one of the five of the Vitess manual.
+fn policy_named(name: &[u8]) -> Option<Durability>
+    ensures { result ≡ policy_reading name.now }
+{
+    read_policy(name).ok()
+}
+
 #[tactic(auto, unfolding(crate::specs::Lines::shard_line))]
 fn shard_line(name: &[u8], policy: &[u8]) -> Option<Line>
     ensures { result ≡ shard_line name.now policy.now }
 {
-    if policy != b"none".as_slice() {
-        return None;
-    }
     let name = ShardName::read(name)?;
-    Some(Line::Shard { name })
+    let policy = policy_named(policy)?;
+    Some(Line::Shard { name, policy })
 }
 
 #[tactic(auto, unfolding(crate::specs::Lines::tablet_line))]

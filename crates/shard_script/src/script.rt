@@ -7,6 +7,7 @@ ghost use Rattle.shard_script.specs.Aliases.{aliases_in, aliases_at};
 ghost use Rattle.shard_script.specs.Script.{all_declared, first_bytes, place_among, has_alias, has_server, shard_eq, is_shard, is_below, in_place, admits_tablet, admits_command, admits_name, admits_action, admits, with_line, with_bytes, lines_of, ended_lines, read_on, read_lines, reading, Gives, Fits};
 
 use crate::line::{Line, parts_of, read_line};
+use durability::Durability;
 use shard_base::{Items, OutOfMemory};
 use shard_calls::{Command, Side};
 use shard_names::{Alias, Name, ShardName, Tablet};
@@ -50,6 +51,8 @@ pub enum Action {
 #[derive(Drop)]
 pub struct Script {
     pub shard: Option<ShardName>,
+    /// The shard's durability policy. That of a script without a shard line is `none`.
+    pub policy: Durability,
     pub tablets: Items<Tablet>,
     /// The names that it starts, in order.
     pub names: Items<Name>,
@@ -312,12 +315,19 @@ fn with_line(script: Script, line: Line) -> Result<Script, OutOfMemory>
 {
     let Script {
         mut shard,
+        mut policy,
         mut tablets,
         mut names,
         mut actions,
     } = script;
     match line {
-        Line::Shard { name } => shard = Some(name),
+        Line::Shard {
+            name,
+            policy: declared,
+        } => {
+            shard = Some(name);
+            policy = declared;
+        }
         Line::Tablet { tablet } => tablets = insert_tablet(tablets, tablet)?,
         Line::Act { action } => {
             names = with_started(names, &action)?;
@@ -326,6 +336,7 @@ fn with_line(script: Script, line: Line) -> Result<Script, OutOfMemory>
     }
     Ok(Script {
         shard,
+        policy,
         tablets,
         names,
         actions,
@@ -369,6 +380,7 @@ fn read_lines(alloc: Global, lines: &[&[u8]]) -> Result<Script, ScriptFault>
 {
     let mut script = Script {
         shard: None,
+        policy: Durability::None,
         tablets: Items::new(alloc),
         names: Items::new(alloc),
         actions: Items::new(alloc),

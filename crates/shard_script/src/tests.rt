@@ -1,6 +1,8 @@
 use crate::number::read_duration;
 use crate::{ScriptFault, read_text};
+use durability::Durability;
 use shard_base::{OutOfMemory, append_pieces};
+use shard_names::TabletType;
 use std::alloc::Global;
 use std::test::Fail;
 
@@ -13,6 +15,73 @@ fn reads_durations_of_at_most_a_day(rt: HostRuntime) -> Result<(), Fail> {
     assert_eq!(rt; read_duration(b"1000000000ms"), None);
     assert_eq!(rt; read_duration(b"5"), None);
     assert_eq!(rt; read_duration(b"ms"), None);
+    Ok(())
+}
+
+/// The policy that a text declares, if it is a script.
+fn policy_of(alloc: Global, text: &[u8]) -> Result<Option<Durability>, OutOfMemory> {
+    match read_text(alloc, text) {
+        Ok(script) => Ok(Some(script.policy)),
+        Err(ScriptFault::Line(_)) => Ok(None),
+        Err(ScriptFault::OutOfMemory) => Err(OutOfMemory),
+    }
+}
+
+#[test]
+fn reads_the_five_policies(rt: HostRuntime) -> Result<(), Fail> {
+    let texts = [
+        (b"".as_slice(), Some(Durability::None)),
+        (b"shard commerce/0 none".as_slice(), Some(Durability::None)),
+        (
+            b"shard commerce/0 semi_sync".as_slice(),
+            Some(Durability::SemiSync),
+        ),
+        (
+            b"shard commerce/0 cross_cell".as_slice(),
+            Some(Durability::CrossCell),
+        ),
+        (
+            b"shard commerce/0 semi_sync_with_rdonly_ack".as_slice(),
+            Some(Durability::SemiSyncWithRdonlyAck),
+        ),
+        (
+            b"shard commerce/0 cross_cell_with_rdonly_ack".as_slice(),
+            Some(Durability::CrossCellWithRdonlyAck),
+        ),
+        (b"shard commerce/0 semi-sync".as_slice(), None),
+        (b"shard commerce/0 NONE".as_slice(), None),
+        (b"shard commerce/0".as_slice(), None),
+    ];
+    for (text, policy) in texts {
+        assert_eq!(rt; policy_of(rt.alloc(), text)?, policy);
+    }
+    Ok(())
+}
+
+/// The type of the one tablet of a script.
+fn kind_of(alloc: Global, kind: &[u8]) -> Result<Option<TabletType>, OutOfMemory> {
+    let mut text = Vec::new(alloc);
+    append_pieces(
+        &mut text,
+        &[
+            b"shard commerce/0 semi_sync\ntablet zone1-100 ".as_slice(),
+            kind,
+            b" 00000000-0000-4000-8000-000000000100".as_slice(),
+        ],
+    )?;
+    match read_text(alloc, &text) {
+        Ok(script) => Ok(script.tablets.as_slice().first().map(|tablet| tablet.kind)),
+        Err(ScriptFault::Line(_)) => Ok(None),
+        Err(ScriptFault::OutOfMemory) => Err(OutOfMemory),
+    }
+}
+
+#[test]
+fn reads_the_types_of_tablets(rt: HostRuntime) -> Result<(), Fail> {
+    assert_eq!(rt; kind_of(rt.alloc(), b"replica")?, Some(TabletType::Replica));
+    assert_eq!(rt; kind_of(rt.alloc(), b"rdonly")?, Some(TabletType::Rdonly));
+    assert_eq!(rt; kind_of(rt.alloc(), b"spare")?, Some(TabletType::Spare));
+    assert_eq!(rt; kind_of(rt.alloc(), b"master")?, None);
     Ok(())
 }
 

@@ -1,2 +1,3 @@
 pub mod PlaceLemmas
 pub mod ReplyLemmas
+pub mod FoundLemmas

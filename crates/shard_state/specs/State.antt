@@ -1,16 +1,19 @@
 -- What a shard keeps, and the world that it stands for: the tablets as a list of managers, the messages as the post has them, the rest as it is.
-use Rattle.std.specs.Prelude.{ℕ, List, [], ◌∷◌, map, if◌then◌else◌}
+use Rattle.std.specs.Prelude.{◌≡◌, ℕ, List, [], ◌∷◌, map, if◌then◌else◌}
+use Rattle.std.specs.List.{AllByRecursion}
 use Rattle.shard_names.specs.Tablets.{alias_eq}
 use Rattle.shard_names.specs.declared.alias.Alias.{Alias}
 use Rattle.shard_names.specs.declared.tablet.Tablet.{Tablet}
+use Rattle.durability.specs.declared.policy.Durability.{Durability}
 use Rattle.topo_lock.specs.Topology.{Topology}
 use Rattle.shard_calls.specs.declared.event.Link.{Link}
 use Rattle.shard_calls.specs.declared.event.Step.{Step}
 use Rattle.shard_calls.specs.declared.post.Message.{Message}
 use Rattle.shard_calls.specs.declared.state.ActorState.{ActorState}
 use Rattle.shard_calls.specs.declared.state.CommandState.{CommandState}
+use Rattle.shard_calls.specs.Groups.{Group}
 use Rattle.shard_calls.specs.Tablets.{TabletState, opened}
-use Rattle.shard_calls.specs.World.{Config, World}
+use Rattle.shard_calls.specs.World.{Config, World, group_of}
 use Rattle.tablet_manager.specs.Managed.{Managed, state_of}
 use Rattle.shard_state.specs.declared.fields.Fields.{Fields}
 
@@ -25,6 +28,7 @@ state_at (m ∷ ms) a = if alias_eq m.me.alias a then state_of m else state_at m
 -- the fields, with the vectors as their lists
 pub record Data : Type 0 where
   pub managers : List Managed
+  pub policy : Durability
   pub moment : ℕ
   pub topo : Topology
   -- the aliases that the post knows
@@ -38,6 +42,7 @@ pub record Data : Type 0 where
 abbrev pub data_of : Fields → Data
 data_of f = record {
   managers = f.managers.items;
+  policy = f.policy;
   moment = f.moment;
   topo = f.topo.topology;
   aliases = f.post.aliases;
@@ -50,11 +55,24 @@ data_of f = record {
 
 -- the configuration that is kept
 abbrev pub config_in : Data → Config
-config_in d = record { tablets = tablets_of d.managers; moment = d.moment }
+config_in d = record { tablets = tablets_of d.managers; policy = d.policy; moment = d.moment }
+
+-- the tablets and the policy of it
+abbrev pub group_in : Data → Group
+group_in d = group_of (config_in d)
+
+-- what each manager knows of its shard
+abbrev pub groups_in : List Managed → List Group
+groups_in managers = map (λ m. m.group) managers
+
+-- each manager knows the shard as it is kept
+abbrev pub AreOfGroup : Data → Type 0
+AreOfGroup d = AllByRecursion (λ g. g ≡ group_in d) (groups_in d.managers)
 
 -- the world that the fields stand for, with these steps past
 abbrev pub world_seen : Data → List Step → World
 world_seen d steps = record {
+  group = group_in d;
   tablets = state_at d.managers;
   topo = d.topo;
   post = d.messages;

@@ -4,15 +4,16 @@ ghost use Rattle.std.specs.Prelude.{◌≡◌};
 ghost use Rattle.std.specs.List.{find};
 ghost use Rattle.std.specs.Option.{option_copied};
 ghost use Rattle.shard_names.specs.Tablets.{alias_eq, tablet_of, is_declared};
-ghost use Rattle.shard_calls.specs.World.{is_eligible, is_eligible_alias, may_be_promoted};
+ghost use Rattle.shard_calls.specs.World.{is_eligible_alias};
 ghost use Rattle.shard_calls.specs.Begins.{names_declared};
 ghost use Rattle.shard_calls.specs.Table.{is_side, is_control, is_link};
 ghost use Rattle.shard_state.specs.State.{tablets_of, data_of, config_in};
 
 use crate::Fields;
 use crate::tablets::tablet_of;
+use durability::is_eligible;
 use shard_calls::{Command, Side};
-use shard_names::{Alias, Tablet, TabletType};
+use shard_names::Alias;
 use tablet_manager::Manager;
 
 /// Whether the alias is declared. It costs the steps to it in the list of tablets.
@@ -22,23 +23,12 @@ pub fn is_declared(managers: &[Manager], alias: &Alias) -> bool
     tablet_of(managers, alias).is_some()
 }
 
-/// Whether the tablet may be promoted: under the policy `none` a replica may, and no other type.
-fn is_eligible(tablet: &Tablet) -> bool
-    ensures { result ≡ is_eligible tablet.now }
+/// Whether the alias is declared, and the policy lets its tablet be promoted. It costs the steps to it in the list of tablets.
+pub fn is_eligible_alias(fields: &Fields, alias: &Alias) -> bool
+    ensures { result ≡ is_eligible_alias (config_in (data_of fields.now)) alias.now }
 {
-    match tablet.kind {
-        TabletType::Replica => true,
-        TabletType::Rdonly => false,
-        TabletType::Spare => false,
-    }
-}
-
-/// Whether the alias is declared and may be promoted. It costs the steps to it in the list of tablets.
-pub fn is_eligible_alias(managers: &[Manager], alias: &Alias) -> bool
-    ensures { result ≡ may_be_promoted (tablet_of (tablets_of managers.now) alias.now) }
-{
-    match tablet_of(managers, alias) {
-        Some(tablet) => is_eligible(&tablet),
+    match tablet_of(&fields.managers, alias) {
+        Some(tablet) => is_eligible(&fields.policy, &tablet),
         None => false,
     }
 }

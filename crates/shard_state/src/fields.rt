@@ -1,3 +1,4 @@
+use durability::Durability;
 use post::Post;
 use shard_calls::{ActorState, CommandState, Link};
 use std::alloc::Global;
@@ -10,6 +11,8 @@ pub struct Fields {
     pub alloc: Global,
     /// The tablets, in alias order.
     pub managers: Vec<Manager>,
+    /// How many tablets must acknowledge a primary's writes, and which.
+    pub policy: Durability,
     /// The moment at which the clock began, in milliseconds since the start of 1970.
     pub moment: u64,
     pub topo: Topo,

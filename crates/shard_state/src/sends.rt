@@ -28,7 +28,7 @@ fn is_first_ground(fields: &Fields, term: u64, position: &GtidSet) -> bool
 pub fn has_evidence(fields: &Fields, term: u64, alias: &Alias, position: &GtidSet) -> bool
     ensures { (command : ℕ) → result ≡ has_evidence (config_in (data_of fields.now)) (seen (data_of fields.now)) command term alias.now position.now }
 {
-    is_eligible_alias(&fields.managers, alias)
+    is_eligible_alias(fields, alias)
         && intends(&fields.topo, term, alias)
         && is_first_ground(fields, term, position)
 }

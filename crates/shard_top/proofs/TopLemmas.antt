@@ -9,7 +9,7 @@ use Rattle.shard_names.specs.Tablets.{AreTablets}
 use Rattle.shard_calls.specs.World.{Config}
 use Rattle.shard_core.specs.Kept.{Kept}
 use Rattle.shard_calls.specs.Safe.{IsSafe}
-use Rattle.shard_calls.proofs.RunLemmas.{every_run_is_safe}
+use Rattle.shard_calls.proofs.SafeLemmas.{every_run_is_safe}
 use Rattle.shard_calls.specs.declared.event.Step.{Step}
 use Rattle.shard_script.specs.declared.script.Script.{Script}
 use Rattle.shard_script.specs.declared.script.ScriptFault.{ScriptFault}

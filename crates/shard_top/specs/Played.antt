@@ -241,7 +241,7 @@ first_moment = 1704067200000
 
 -- the configuration that a script declares
 abbrev pub config_of : Script → Config
-config_of s = record { tablets = s.tablets; moment = first_moment }
+config_of s = record { tablets = s.tablets; policy = s.policy; moment = first_moment }
 
 -- before the first line
 abbrev pub first_player : Player

@@ -2,6 +2,7 @@
 use Rattle.std.specs.Prelude.{◌≡◌, ◌≢◌, ℕ, List, [], ◌++◌, Option, Some, None, Result, Ok, Err}
 use Rattle.std.specs.Io.KnownBytes.{Appends}
 use Rattle.shard_base.specs.Lists.{IsFront}
+use Rattle.durability.specs.declared.policy.Durability.TheVariants as policies
 use Rattle.shard_calls.specs.World.{Config}
 use Rattle.shard_calls.specs.Safe.{IsSafe}
 use Rattle.shard_calls.specs.declared.event.Step.{Step}
@@ -26,7 +27,7 @@ pub record Answer : Type 0 where
 
 -- of words or a text that declare nothing
 abbrev pub no_config : Config
-no_config = record { tablets = []; moment = first_moment }
+no_config = record { tablets = []; policy = policies.None; moment = first_moment }
 
 -- A script is played to a stop, with some wants of memory, and the answers are written, with the reason of the stop.
 pub record IsAnswerOf (s : Script) (a : Answer) : Type 0 where

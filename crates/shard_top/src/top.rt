@@ -109,7 +109,8 @@ fn run_script<O: Sink>(alloc: Global, script: &Script, output: &mut O) -> Outcom
     ensures failed { O.faults output.old < O.faults output.new → result.status ≡ 5 }
     ensures not_read { result.status ≢ 4 }
 {
-    let mut shard = match Shard::new(alloc, script.tablets.as_slice(), first_moment()) {
+    let tablets = script.tablets.as_slice();
+    let mut shard = match Shard::new(alloc, tablets, script.policy, first_moment()) {
         Ok(shard) => shard,
         Err(_) => return ended(alloc, 6),
     };

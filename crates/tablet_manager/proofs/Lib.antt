@@ -1,4 +1,3 @@
-pub mod AckLemmas
 pub mod RowLemmas
 pub mod ManagedLemmas
 pub mod PlaceLemmas

@@ -1,6 +1,5 @@
 pub mod LogState
 pub mod PlainLog
-pub mod Acked
 pub mod Managed
 pub mod Manager
 pub mod Rows

@@ -6,14 +6,16 @@ use Rattle.shard_names.specs.Tablets.{alias_eq}
 use Rattle.gtid_sets.specs.declared.entry.Entry.{Entry}
 use Rattle.gtid_sets.specs.declared.entry.Kind.{Kind}
 use Rattle.gtid_sets.specs.declared.entry.Kind.TheVariants as kind
+use Rattle.replication.specs.Acks.{Acks, acked_in, aliases_of}
 use Rattle.shard_calls.specs.declared.stand.Stand.{Stand}
+use Rattle.shard_calls.specs.Groups.{Group}
 use Rattle.shard_calls.specs.Tablets.{TabletState}
-use Rattle.tablet_manager.specs.Acked.{Acks, acked_in}
 use Rattle.tablet_manager.specs.LogState.{LogState}
 
--- the tablet, its log and terms, what it does, and what others acknowledged to it
+-- the tablet, what it knows of its shard, its log and terms, what it does, and what others acknowledged to it
 pub record Managed : Type 0 where
   pub me : Tablet
+  pub group : Group
   pub log : LogState
   pub stand : Stand
   pub acks : Acks
@@ -26,11 +28,11 @@ with_log m entries = record m { log = record m.log { entries = entries } }
 
 -- the tablets that may acknowledge to it
 abbrev pub ackers_of : Managed → List Alias
-ackers_of m = m.acks.aliases
+ackers_of m = aliases_of m.group.tablets
 
--- it is the same tablet, and the same tablets may acknowledge to it
+-- it is the same tablet of the same shard
 abbrev pub SameTablet : Managed → Managed → Type 0
-SameTablet old new = (new.me ≡ old.me) × (ackers_of new ≡ ackers_of old)
+SameTablet old new = (new.me ≡ old.me) × (new.group ≡ old.group)
 
 -- whether the newest row names the alias, where one more entry comes behind a newest row that did so or did not
 abbrev pub names_after : ℕ → Bool → Alias → Kind → Bool

@@ -1,7 +1,6 @@
 //! One tablet of a shard: its log, what it has promised, what it does, and what others acknowledged to it.
 #![tactic(auto)]
 
-mod acks;
 mod manager;
 mod plain_log;
 #[cfg(test)]

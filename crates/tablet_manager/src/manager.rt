@@ -1,17 +1,21 @@
-ghost use Rattle.std.specs.Prelude.{◌≡◌, ℕ, ◌≤◌, ◌<◌, ◌+◌, ◌-◌, ◌^◌, [], ◌∷◌, ◌++◌, Bool, true, false, map, OnOk, OnErr, IfOk, Ok, nat_lt};
-ghost use Rattle.shard_names.specs.Tablets.{alias_eq, is_among};
+ghost use Rattle.std.specs.Prelude.{◌≡◌, ℕ, ◌≤◌, ◌<◌, ◌+◌, ◌-◌, ◌^◌, [], ◌∷◌, ◌++◌, Bool, true, false, OnOk, OnErr, IfOk, Ok, Contains, nat_lt};
+ghost use Rattle.shard_names.specs.Tablets.{AreTablets, alias_eq, is_among};
+ghost use Rattle.durability.specs.Policies.{rules_of};
+ghost use Rattle.durability.specs.Sets.{is_accepted};
+ghost use Rattle.replication.specs.Acks.{acked_in};
+ghost use Rattle.replication.specs.Told.{holders};
 ghost use Rattle.gtid_sets.specs.declared.entry.Kind.TheVariants as kinds;
 ghost use Rattle.shard_calls.specs.declared.call.Call.TheVariants as calls;
 ghost use Rattle.shard_calls.specs.declared.answer.Answer.TheVariants as answers;
 ghost use Rattle.shard_calls.specs.Logs.{position_of, own_number, greatest_number, next_gtid, with_entry, with_own};
 ghost use Rattle.shard_calls.specs.Stands.{is_down, waits_for};
-ghost use Rattle.shard_calls.specs.Tablets.{opened, kept_or_promoted, answer_to, after_call, status_of, accepts, after_ack, is_told, writes, writes_own, writes_local, after_crash, restarts, with_row};
+ghost use Rattle.shard_calls.specs.Tablets.{opened, kept_or_promoted, answer_to, after_call, status_of, accepts, after_ack, is_told, is_row_told, writes, writes_own, writes_local, after_crash, restarts, with_row};
 ghost use Rattle.tablet_manager.specs.Managed.{Managed, state_of, with_log, ackers_of, SameTablet, names_after};
-ghost use Rattle.tablet_manager.specs.Acked.{acked_in};
 
-use crate::acks::AckList;
 use crate::plain_log::PlainLog;
+use durability::Durability;
 use gtid_sets::{Entry, Gtid, GtidSet, Kind, covers};
+use replication::AckTable;
 use shard_base::OutOfMemory;
 use shard_calls::{Accepted, Answer, Restarted, Stand, Written};
 use shard_names::{Alias, Tablet};
@@ -19,15 +23,17 @@ use std::alloc::Global;
 use std::marker::Model;
 use uuid::Uuid;
 
-/// One tablet. Contracts see which tablet it is, which tablets may acknowledge to it, and its state.
+/// One tablet. Contracts see which tablet it is, the tablets and the durability policy of its shard, and its state.
 #[derive(Drop)]
 pub struct Manager {
     me: Tablet,
+    tablets: Vec<Tablet>,
+    policy: Durability,
     log: PlainLog,
     stand: Stand,
     newest_is_own: bool,
     greatest: u64,
-    acks: AckList,
+    acks: AckTable,
 }
 
 impl Model for Manager {
@@ -85,16 +91,26 @@ fn waits_for(stand: &Stand, next: u64) -> Stand
 }
 
 impl Manager {
-    /// A tablet that nothing has happened to: stopped, with an empty log and the terms 0. It is one of the tablets.
-    pub fn new(alloc: Global, me: Tablet, tablets: &[Tablet]) -> Result<Manager, OutOfMemory>
-        requires { is_among (map (λ t. t.alias) tablets.now) me.alias ≡ true }
+    /// A tablet that nothing has happened to: stopped, with an empty log and the terms 0. It is one of the tablets, which are a shard's, and
+    /// the policy is that of the shard.
+    pub fn new(
+        alloc: Global,
+        me: Tablet,
+        tablets: &[Tablet],
+        policy: Durability,
+    ) -> Result<Manager, OutOfMemory>
+        requires shard { AreTablets tablets.now }
+        requires among { Contains tablets.now me }
         ensures who { IfOk result (λ manager. manager.me ≡ me) }
-        ensures ackers { IfOk result (λ manager. ackers_of manager ≡ map (λ t. t.alias) tablets.now) }
+        ensures group { IfOk result (λ manager. manager.group ≡ record { tablets = tablets.now; policy = policy }) }
         ensures state { IfOk result (λ manager. state_of manager ≡ opened) }
     {
-        let acks = AckList::new(alloc, tablets)?;
+        let acks = AckTable::new(alloc, tablets)?;
+        let known = Vec::from_slice(alloc, tablets)?;
         Ok(Manager {
             me,
+            tablets: known,
+            policy,
             log: PlainLog::new(alloc),
             stand: Stand::Stopped,
             newest_is_own: false,
@@ -110,11 +126,11 @@ impl Manager {
         &self.me
     }
 
-    /// The tablets that may acknowledge to it.
-    pub fn ackers(&self) -> &[Alias]
-        ensures { result.now ≡ ackers_of self.now }
+    /// The tablets of its shard, which may acknowledge to it.
+    pub fn tablets(&self) -> &[Tablet]
+        ensures { result.now ≡ self.now.group.tablets }
     {
-        self.acks.aliases()
+        self.tablets.as_slice()
     }
 
     /// The greatest number of the tablet's own server in its log, or 0. Its next write has the number behind it.
@@ -138,12 +154,28 @@ impl Manager {
         &self.stand
     }
 
-    /// Whether an index of its log counts as committed: at a primary each does, and at any other tablet none.
-    pub fn is_told(&self, index: u64) -> bool
-        ensures { result ≡ is_told (state_of self.now) index }
+    /// Whether the policy accepts the tablets that have this index of the log, as far as they acknowledged it.
+    fn is_accepted(&self, index: u64) -> bool
+        ensures { result ≡ is_accepted (rules_of self.now.group.policy) self.now.group.tablets self.now.me (holders (acked_in self.now.acks) self.now.me.alias index) }
     {
-        let _ = index;
-        self.stand.is_primary()
+        self.acks.is_told(&self.policy, self.tablets.as_slice(), &self.me.alias, index)
+    }
+
+    /// Whether an index of its log counts as committed: it is a primary, and the policy accepts the tablets that have the index.
+    pub fn is_told(&self, index: u64) -> bool
+        ensures { result ≡ is_told self.now.group self.now.me (state_of self.now) index }
+    {
+        self.stand.is_primary() && self.is_accepted(index)
+    }
+
+    /// Whether the row of the term is in its log and counts as committed.
+    pub fn is_row_told(&self, term: u64) -> bool
+        ensures { result ≡ is_row_told self.now.group self.now.me (state_of self.now) term }
+    {
+        match self.log.row_at(term) {
+            Some(index) => self.is_told(index),
+            None => false,
+        }
     }
 
     /// Puts an entry at the end of the log. Want of memory changes nothing.
@@ -211,8 +243,8 @@ impl Manager {
     /// Stops the tablet for a term that it has not promised yet, and promises it.
     pub fn stop(&mut self, term: u64) -> Result<Answer, OutOfMemory>
         requires up { is_down self.old.stand ≡ false }
-        ensures answer { IfOk result (λ answer. answer ≡ answer_to self.old.me term calls.Stop (state_of self.old)) }
-        ensures state { OnOk result (state_of self.new ≡ after_call self.old.me term calls.Stop (state_of self.old)) }
+        ensures answer { IfOk result (λ answer. answer ≡ answer_to self.old.group self.old.me term calls.Stop (state_of self.old)) }
+        ensures state { OnOk result (state_of self.new ≡ after_call self.old.group self.old.me term calls.Stop (state_of self.old)) }
         ensures who { SameTablet self.old self.new }
         ensures err { OnErr result (self.new ≡ self.old) }
     {
@@ -234,8 +266,8 @@ impl Manager {
     /// Takes no more writes, if the newest row is the tablet's own, and promises the term.
     pub fn demote(&mut self, term: u64) -> Result<Answer, OutOfMemory>
         requires up { is_down self.old.stand ≡ false }
-        ensures answer { IfOk result (λ answer. answer ≡ answer_to self.old.me term calls.Demote (state_of self.old)) }
-        ensures state { OnOk result (state_of self.new ≡ after_call self.old.me term calls.Demote (state_of self.old)) }
+        ensures answer { IfOk result (λ answer. answer ≡ answer_to self.old.group self.old.me term calls.Demote (state_of self.old)) }
+        ensures state { OnOk result (state_of self.new ≡ after_call self.old.group self.old.me term calls.Demote (state_of self.old)) }
         ensures who { SameTablet self.old self.new }
         ensures err { OnErr result (self.new ≡ self.old) }
     {
@@ -289,8 +321,8 @@ impl Manager {
     pub fn promote(&mut self, term: u64, position: &GtidSet) -> Result<Answer, OutOfMemory>
         requires up { is_down self.old.stand ≡ false }
         requires numbered { greatest_number self.old.me.server self.old.log.entries ≤ 9223372036854775805 }
-        ensures answer { IfOk result (λ answer. answer ≡ answer_to self.old.me term (calls.Promote position.now) (state_of self.old)) }
-        ensures state { OnOk result (state_of self.new ≡ after_call self.old.me term (calls.Promote position.now) (state_of self.old)) }
+        ensures answer { IfOk result (λ answer. answer ≡ answer_to self.old.group self.old.me term (calls.Promote position.now) (state_of self.old)) }
+        ensures state { OnOk result (state_of self.new ≡ after_call self.old.group self.old.me term (calls.Promote position.now) (state_of self.old)) }
         ensures who { SameTablet self.old self.new }
         ensures err { OnErr result (self.new ≡ self.old) }
     {
@@ -337,8 +369,8 @@ impl Manager {
         requires up { is_down self.old.stand ≡ false }
         requires another { alias_eq source.now self.old.me.alias ≡ false }
         requires fits { stand ≤ term }
-        ensures answer { IfOk result (λ answer. answer ≡ answer_to self.old.me term (calls.SetSource source.now stand position.now) (state_of self.old)) }
-        ensures state { OnOk result (state_of self.new ≡ after_call self.old.me term (calls.SetSource source.now stand position.now) (state_of self.old)) }
+        ensures answer { IfOk result (λ answer. answer ≡ answer_to self.old.group self.old.me term (calls.SetSource source.now stand position.now) (state_of self.old)) }
+        ensures state { OnOk result (state_of self.new ≡ after_call self.old.group self.old.me term (calls.SetSource source.now stand position.now) (state_of self.old)) }
         ensures who { SameTablet self.old self.new }
         ensures err { OnErr result (self.new ≡ self.old) }
     {
@@ -374,8 +406,8 @@ impl Manager {
     /// Tells whether the row of the term counts as committed, whatever the moment until which the caller waits.
     pub fn wait_told(&mut self, term: u64) -> Result<Answer, OutOfMemory>
         requires up { is_down self.old.stand ≡ false }
-        ensures answer { (until : ℕ) → IfOk result (λ answer. answer ≡ answer_to self.old.me term (calls.WaitTold until) (state_of self.old)) }
-        ensures state { (until : ℕ) → OnOk result (state_of self.new ≡ after_call self.old.me term (calls.WaitTold until) (state_of self.old)) }
+        ensures answer { (until : ℕ) → IfOk result (λ answer. answer ≡ answer_to self.old.group self.old.me term (calls.WaitTold until) (state_of self.old)) }
+        ensures state { (until : ℕ) → OnOk result (state_of self.new ≡ after_call self.old.group self.old.me term (calls.WaitTold until) (state_of self.old)) }
         ensures who { SameTablet self.old self.new }
         ensures err { OnErr result (self.new ≡ self.old) }
     {
@@ -387,6 +419,9 @@ impl Manager {
         self.log.see(term);
         if !self.stand.is_primary_of(term) {
             return Ok(Answer::Kept { stand: self.stand });
+        }
+        if !self.is_row_told(term) {
+            return Ok(Answer::NotTold);
         }
         Ok(Answer::Told)
     }
@@ -424,7 +459,7 @@ impl Manager {
         if !self.stand.is_primary_of(term) {
             return;
         }
-        self.acks.raise(from, index);
+        self.acks.ack(from, index);
     }
 
     /// Writes an own entry.

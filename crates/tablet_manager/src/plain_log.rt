@@ -1,6 +1,6 @@
-ghost use Rattle.std.specs.Prelude.{◌≡◌, ◌<◌, ◌-◌, ◌^◌, [], ◌∷◌, ◌++◌, nat_eq, vec_len, vec_capacity, OnOk, OnErr, IfOk};
+ghost use Rattle.std.specs.Prelude.{◌≡◌, ◌<◌, ◌-◌, ◌^◌, [], ◌∷◌, ◌++◌, nat_eq, position, vec_len, vec_capacity, OnOk, OnErr, IfOk};
 ghost use Rattle.gtid_sets.specs.Position.{with_gtid, minus};
-ghost use Rattle.shard_calls.specs.Logs.{position_of, holds, newest_row, row_or_zero, has_row, rows_of, place_of_row};
+ghost use Rattle.shard_calls.specs.Logs.{position_of, holds, newest_row, row_or_zero, is_row_of, has_row, rows_of, place_of_row};
 ghost use Rattle.std.specs.List.{list_any};
 ghost use Rattle.tablet_manager.specs.Rows.{place_after};
 
@@ -43,6 +43,24 @@ fn row_or_zero(entry: &Entry) -> u64
         Kind::Row { term, .. } => *term,
         Kind::Local => 0,
     }
+}
+
+/// Whether the entry is the row of the term.
+fn is_row_of(entry: &Entry, term: u64) -> bool
+    ensures { result ≡ is_row_of term entry.now }
+{
+    match &entry.kind {
+        Kind::Write { .. } => false,
+        Kind::Row { term: of, .. } => *of == term,
+        Kind::Local => false,
+    }
+}
+
+/// The place of the row of the term.
+fn find_row(entries: &[Entry], term: u64) -> Option<usize>
+    ensures { result ≡ position (is_row_of term) entries.now }
+{
+    entries.iter().position(|entry| is_row_of(entry, term))
 }
 
 /// The index of the newest row, once such an entry comes behind so many others.
@@ -173,6 +191,20 @@ impl PlainLog {
         ensures { result ≡ place_of_row self.now.entries (newest_row self.now.entries) }
     {
         self.newest_at
+    }
+
+    /// The index of the row of the term, counted from 1, if the log has the row. Of the newest row it is known; for any other the log is
+    /// searched.
+    pub fn row_at(&self, term: u64) -> Option<u64>
+        ensures { result ≡ place_of_row self.now.entries term }
+    {
+        if term == self.newest {
+            return self.newest_at;
+        }
+        match find_row(self.entries.as_slice(), term) {
+            Some(at) => Some(at as u64 + 1),
+            None => None,
+        }
     }
 
     /// Whether the log has the transaction.

@@ -1,8 +1,12 @@
-ghost use Rattle.std.specs.Prelude.{◌≡◌, map};
+ghost use Rattle.std.specs.Prelude.{◌≡◌, ◌<◌, length, IsTrue, All, Contains};
+ghost use Rattle.std.specs.Str.{bytes_eq};
 ghost use Rattle.std.specs.List.{list_any};
-ghost use Rattle.shard_names.specs.Tablets.{alias_eq, is_among};
+ghost use Rattle.std.specs.declared.cmp.Ordering.TheVariants.{Less};
+ghost use Rattle.shard_names.specs.Tablets.{AliasesRise, AreTablets, ServersDiffer, alias_cmp, alias_eq, is_among};
+ghost use Rattle.replication.specs.Acks.{aliases_of};
 
 use crate::{Accepted, Manager, Restarted, Written};
+use durability::Durability;
 use gtid_sets::{Entry, Gtid, GtidSet, Kind, equal};
 use shard_base::OutOfMemory;
 use shard_calls::{Answer, Stand};
@@ -32,9 +36,51 @@ fn any_of(tablets: &[Tablet], alias: &Alias) -> bool
 
 #[tactic(auto, using(crate::proofs::ManagedLemmas::among_map))]
 fn has_alias(tablets: &[Tablet], alias: &Alias) -> bool
-    ensures { result ≡ is_among (map (λ t. t.alias) tablets.now) alias.now }
+    ensures { result ≡ is_among (aliases_of tablets.now) alias.now }
 {
     any_of(tablets, alias)
+}
+
+fn is_below(tablet: &Tablet, others: &[Tablet]) -> bool
+    ensures { IsTrue result → All (λ u. alias_cmp tablet.now.alias u.alias ≡ Less) others.now }
+{
+    others.iter().all(|u| tablet.alias < u.alias)
+}
+
+fn is_apart(tablet: &Tablet, others: &[Tablet]) -> bool
+    ensures { IsTrue result → All (λ u. IsTrue (bytes_eq tablet.now.server u.server) → ⊥) others.now }
+{
+    others.iter().all(|u| tablet.server != u.server)
+}
+
+fn are_a_shard(tablets: &[Tablet]) -> bool
+    ensures rise { IsTrue result → AliasesRise tablets.now }
+    ensures differ { IsTrue result → ServersDiffer tablets.now }
+{
+    match tablets.split_first() {
+        Some((first, rest)) => is_below(first, rest) && is_apart(first, rest) && are_a_shard(rest),
+        None => true,
+    }
+}
+
+fn one_of(tablets: &[Tablet], at: usize) -> &Tablet
+    requires { at < length tablets.now }
+    ensures { Contains tablets.now result.now }
+{
+    &tablets[at]
+}
+
+fn manager_under(
+    rt: &impl Abort,
+    alloc: Global,
+    tablets: &[Tablet],
+    policy: Durability,
+    at: usize,
+) -> Result<Manager, OutOfMemory> {
+    assert!(rt; at < tablets.len());
+    assert!(rt; are_a_shard(tablets));
+    let me = one_of(tablets, at);
+    Manager::new(alloc, *me, tablets, policy)
 }
 
 fn manager(
@@ -43,10 +89,7 @@ fn manager(
     tablets: &[Tablet],
     at: usize,
 ) -> Result<Manager, OutOfMemory> {
-    assert!(rt; at < tablets.len());
-    let me = &tablets[at];
-    assert!(rt; has_alias(tablets, &me.alias));
-    Manager::new(alloc, *me, tablets)
+    manager_under(rt, alloc, tablets, Durability::None, at)
 }
 
 fn promote(
@@ -166,14 +209,8 @@ fn demotes(rt: HostRuntime) -> Result<(), Fail> {
     Ok(())
 }
 
-fn is_acker(ackers: &[Alias], alias: &Alias) -> bool
-    ensures { result ≡ is_among ackers.now alias.now }
-{
-    ackers.iter().any(|acker| *alias == *acker)
-}
-
 fn ack(rt: &impl Abort, manager: &mut Manager, from: &Alias, term: u64, index: u64) {
-    assert!(rt; is_acker(manager.ackers(), from));
+    assert!(rt; has_alias(manager.tablets(), from));
     manager.ack(from, term, index);
 }
 
@@ -189,14 +226,49 @@ fn is_told(answer: &Answer) -> bool {
     }
 }
 
+fn is_not_told(answer: &Answer) -> bool {
+    match answer {
+        Answer::NotTold => true,
+        _ => false,
+    }
+}
+
 #[test]
 fn tells_what_is_committed(rt: HostRuntime) -> Result<(), Fail> {
     let alloc = rt.alloc();
     let tablets = [tablet(&rt, b"zone1-100", 0), tablet(&rt, b"zone1-101", 1)];
     let mut primary = primary(&rt, alloc, &tablets)?;
-    ack(&rt, &mut primary, &tablets[1].alias, 1, 1);
     assert!(rt; primary.is_told(1));
     assert!(rt; is_told(&wait_told(&rt, &mut primary, 1)?));
+    Ok(())
+}
+
+/// The first of the tablets, under semi-synchronous replication, as the primary of the term 1.
+fn semi_sync(rt: &impl Abort, alloc: Global, tablets: &[Tablet]) -> Result<Manager, OutOfMemory> {
+    let mut primary = manager_under(rt, alloc, tablets, Durability::SemiSync, 0)?;
+    promote(rt, &mut primary, 1, &GtidSet::empty(alloc))?;
+    Ok(primary)
+}
+
+/// The row waits for an acknowledgement of another replica.
+#[test]
+fn row_is_not_told(rt: HostRuntime) -> Result<(), Fail> {
+    let alloc = rt.alloc();
+    let tablets = [tablet(&rt, b"zone1-100", 0), tablet(&rt, b"zone1-101", 1)];
+    let mut primary = semi_sync(&rt, alloc, &tablets)?;
+    assert!(rt; is_not_told(&wait_told(&rt, &mut primary, 1)?));
+    Ok(())
+}
+
+/// The acknowledgement of an index commits it, and none behind it.
+#[test]
+fn acknowledged_is_told(rt: HostRuntime) -> Result<(), Fail> {
+    let alloc = rt.alloc();
+    let tablets = [tablet(&rt, b"zone1-100", 0), tablet(&rt, b"zone1-101", 1)];
+    let mut primary = semi_sync(&rt, alloc, &tablets)?;
+    ack(&rt, &mut primary, &tablets[1].alias, 1, 1);
+    assert!(rt; primary.is_row_told(1));
+    assert!(rt; !primary.is_told(2));
     Ok(())
 }
 

@@ -42,8 +42,13 @@ not_caught_up_text a missing since now = codes "10 NotCaughtUp: " ++ lacks_text 
 unfoldable pub stale_term_text : Alias → ℕ → List ℕ
 stale_term_text a seen = codes "11 StaleTerm: " ++ alias_text a ++ codes " " ++ has_seen_text seen
 
+-- since when and until when too few tablets had acknowledged a promotion
+unfoldable pub not_told_text : Alias → ℕ → ℕ → List ℕ
+not_told_text a since now = alias_text a ++ codes " " ++ since_text since now
+
 -- what is known of a tablet whose promotion does not count as committed
 abbrev pub unacked_text : Alias → Unacked → List ℕ
+unacked_text a (unacked.NotTold since now) = not_told_text a since now
 unacked_text a (unacked.Kept stand) = stands_text a stand
 
 unfoldable pub not_acknowledged_text : Alias → Unacked → List ℕ

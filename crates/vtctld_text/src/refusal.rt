@@ -1,5 +1,5 @@
 ghost use Rattle.std.specs.Prelude.{◌≡◌, ◌++◌, OnOk};
-ghost use Rattle.vtctld_text.specs.Refusals.{lock_taken_text, lock_lost_text, no_such_tablet_text, bar_text, not_eligible_text, unreachable_text, lacks_text, not_caught_up_text, stale_term_text, unacked_text, not_acknowledged_text, out_of_memory_text, not_built_text, refusal_text};
+ghost use Rattle.vtctld_text.specs.Refusals.{lock_taken_text, lock_lost_text, no_such_tablet_text, bar_text, not_eligible_text, unreachable_text, lacks_text, not_caught_up_text, stale_term_text, not_told_text, unacked_text, not_acknowledged_text, out_of_memory_text, not_built_text, refusal_text};
 
 use crate::number::write_number;
 use crate::stand::{write_has_seen, write_since, write_stands, write_why};
@@ -102,11 +102,27 @@ fn write_stale_term(alias: &Alias, seen: u64, into: &mut Vec<u8>) -> Result<(), 
     write_has_seen(seen, into)
 }
 
+/// Appends since when and until when too few tablets had acknowledged a promotion.
+#[tactic(auto, unfolding(crate::specs::Refusals::not_told_text))]
+fn write_not_told(
+    alias: &Alias,
+    since: u64,
+    now: u64,
+    into: &mut Vec<u8>,
+) -> Result<(), OutOfMemory>
+    ensures { OnOk result (into.new.items ≡ into.old.items ++ not_told_text alias.now since now) }
+{
+    alias.write(into)?;
+    into.extend_from_slice(b" ")?;
+    write_since(since, now, into)
+}
+
 /// Appends what is known of a tablet whose promotion does not count as committed.
 fn write_unacked(alias: &Alias, cause: &Unacked, into: &mut Vec<u8>) -> Result<(), OutOfMemory>
     ensures { OnOk result (into.new.items ≡ into.old.items ++ unacked_text alias.now cause.now) }
 {
     match cause {
+        Unacked::NotTold { since, now } => write_not_told(alias, *since, *now, into),
         Unacked::Kept { stand } => write_stands(alias, stand, into),
     }
 }

@@ -379,6 +379,23 @@ fn prints_refusals_by_calls(rt: HostRuntime) -> Result<(), Fail> {
 }
 
 #[test]
+fn prints_not_acknowledged(rt: HostRuntime) -> Result<(), Fail> {
+    let not_told = Refusal::NotAcknowledged {
+        alias: alias(&rt, b"zone1-100"),
+        cause: Unacked::NotTold {
+            since: 1704067200000,
+            now: 1704067216000,
+        },
+    };
+    let text = refusal_by(&rt, rt.alloc(), not_told)?;
+    let want =
+        b"[p] PlannedReparentShard commerce/0: refused 17 NotAcknowledged: zone1-0000000100 since \
+                 2024-01-01T00:00:00.000Z at 2024-01-01T00:00:16.000Z\n";
+    assert_eq!(rt; text.as_slice(), want.as_slice());
+    Ok(())
+}
+
+#[test]
 fn prints_other_refusals(rt: HostRuntime) -> Result<(), Fail> {
     let alloc = rt.alloc();
     let kept = Refusal::NotAcknowledged {

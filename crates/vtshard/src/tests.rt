@@ -7,7 +7,7 @@ use std::process::Abort;
 use std::test::Fail;
 
 /// Three replicas under the policy `none`.
-const THREE_REPLICAS: &str = "shard commerce/0 none
+pub(crate) const THREE_REPLICAS: &str = "shard commerce/0 none
 tablet zone1-100 replica 00000000-0000-4000-8000-000000000100
 tablet zone1-101 replica 00000000-0000-4000-8000-000000000101
 tablet zone1-102 replica 00000000-0000-4000-8000-000000000102
@@ -75,13 +75,13 @@ fn run(
 
 /// A script, what it prints, and its status.
 #[derive(Clone, Copy)]
-struct Row<'a> {
-    script: &'a [&'a str],
-    printed: &'a str,
-    status: u8,
+pub(crate) struct Row<'a> {
+    pub(crate) script: &'a [&'a str],
+    pub(crate) printed: &'a str,
+    pub(crate) status: u8,
 }
 
-fn plays(rt: &impl Abort, alloc: Global, rows: &[Row]) -> Result<(), Fail> {
+pub(crate) fn plays(rt: &impl Abort, alloc: Global, rows: &[Row]) -> Result<(), Fail> {
     for row in rows {
         let ran = run(alloc, &["step"], row.script, &WHOLE)?;
         assert_eq!(rt; ran.written.as_slice(), row.printed.as_bytes());

@@ -6,7 +6,7 @@ use Rattle.changes.proofs.delivery.ack_at.Goals as goal
 pub ack-requires : goal.ack-requires
 ack-requires c =
     let found = rw c.deref.ensures.value at c.in-Some.ensures in
-    acker_here c.args.managers.now.items c.in-Some.at c.index_mut.result.now c.args.from.now found.0 c.index_mut.ensures.value c.requires.ackers
+    acker_here c.args.managers.now.items c.in-Some.at c.index_mut.result.now c.args.from.now found.0 c.index_mut.ensures.value c.requires.known
 
 pub unreachable-requires : goal.unreachable-requires
 unreachable-requires c =

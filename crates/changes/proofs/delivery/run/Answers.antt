@@ -7,10 +7,10 @@ use Rattle.changes.proofs.delivery.run.Goals as goal
 
 pub returns-in-WaitTold-clause-answer : goal.returns-in-WaitTold-clause-answer
 returns-in-WaitTold-clause-answer c =
-    subst (λ (x : Call). IfOk c.wait_told.result (λ (answer : Answer). answer ≡ answer_to c.args.manager.now.me c.args.term x (state_of c.args.manager.now))) (sym c.in-WaitTold.is)
+    subst (λ (x : Call). IfOk c.wait_told.result (λ (answer : Answer). answer ≡ answer_to c.args.manager.now.group c.args.manager.now.me c.args.term x (state_of c.args.manager.now))) (sym c.in-WaitTold.is)
     (c.wait_told.ensures.answer c.in-WaitTold.until)
 
 pub returns-in-WaitTold-clause-state : goal.returns-in-WaitTold-clause-state
 returns-in-WaitTold-clause-state c =
-    subst (λ (x : Call). OnOk c.wait_told.result (state_of c.wait_told.new.self ≡ after_call c.args.manager.now.me c.args.term x (state_of c.args.manager.now))) (sym c.in-WaitTold.is)
+    subst (λ (x : Call). OnOk c.wait_told.result (state_of c.wait_told.new.self ≡ after_call c.args.manager.now.group c.args.manager.now.me c.args.term x (state_of c.args.manager.now))) (sym c.in-WaitTold.is)
     (c.wait_told.ensures.state c.in-WaitTold.until)

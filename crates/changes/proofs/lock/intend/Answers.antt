@@ -14,7 +14,7 @@ returns-in-Ok-clause-made c =
     record {
       config = refl;
       aliases = refl;
-      ackers = refl;
+      groups = refl;
       world = intended (seen (data_of c.args.fields.now)) c.args.command c.args.alias.now c.in-Some.term (Ok c.in-Ok.field-0) c.reserve.new.self.topology c.intend.new.self.topology (sym is) room answer left (λ s. refl);
       reply = intended_reply (seen (data_of c.args.fields.now)) c.args.command c.args.alias.now c.in-Some.term (Ok c.in-Ok.field-0) c.reserve.new.self.topology (sym is) room answer;
     }
@@ -28,7 +28,7 @@ returns-in-Err-IntentStands-clause-made c =
     record {
       config = refl;
       aliases = refl;
-      ackers = refl;
+      groups = refl;
       world = intended (seen (data_of c.args.fields.now)) c.args.command c.args.alias.now c.in-Some.term (Err (faults.IntentStands c.in-Err-IntentStands.alias)) c.reserve.new.self.topology c.intend.new.self.topology (sym is) room answer left (λ s. refl);
       reply = intended_reply (seen (data_of c.args.fields.now)) c.args.command c.args.alias.now c.in-Some.term (Err (faults.IntentStands c.in-Err-IntentStands.alias)) c.reserve.new.self.topology (sym is) room answer;
     }

@@ -8,6 +8,7 @@ use Rattle.shard_top.proofs.player.next_of.Goals as goal
 
 pub next-requires : goal.next-requires
 next-requires c = record {
+  group = c.fields-fields.ensures.group;
   time =
       subst (λ (n : ℕ). n < 253370764800000) (sym (ap (λ (w : World). w.clock) c.fields-fields.ensures.world))
       (reached c.args.shard.now.config c.args.shard.now.steps c.fields-fields.ensures.begins c.fields-fields.ensures.run).clock;

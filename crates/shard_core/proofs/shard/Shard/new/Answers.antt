@@ -8,7 +8,7 @@ use Rattle.shard_core.proofs.shard.Shard.new.Goals as goal
 pub invariant_of-result : goal.invariant_of-result
 invariant_of-result c = record {
   leads = rw (c.in_ok-topo.ensures, c.in_ok-post.ensures, c.in_ok-actors.ensures, c.new-3.ensures.items, c.new-4.ensures.items, c.new-5.ensures.items)
-      (leads_opening c.args.tablets.now c.args.moment c.in_ok-managers.managers.items c.requires.tablets c.requires.begins c.in_ok-managers.ensures);
+      (leads_opening (record { tablets = c.args.tablets.now; policy = c.args.policy }) c.args.moment c.in_ok-managers.managers.items c.requires.tablets c.requires.begins c.in_ok-managers.ensures);
   owed = sym (ap (λ (cs : List CommandState). owed_of cs) c.new-4.ensures.items);
   room = omega (arith, c.new-5.ensures.len);
 }
@@ -16,6 +16,6 @@ invariant_of-result c = record {
 pub returns : goal.returns
 returns c =
     let tablets : tablets_of c.in_ok-managers.managers.items ≡ c.args.tablets.now =
-    tablets_opened c.args.tablets.now c.in_ok-managers.managers.items c.in_ok-managers.ensures in
+    tablets_opened (record { tablets = c.args.tablets.now; policy = c.args.policy }) c.in_ok-managers.managers.items c.in_ok-managers.ensures in
     let none = c.new-5.ensures.items in
-    λ i. record { config = record { tablets = tablets i; moment = c.args.moment }; steps = none i }
+    λ i. record { config = record { tablets = tablets i; policy = c.args.policy; moment = c.args.moment }; steps = none i }

@@ -8,4 +8,4 @@ use Rattle.tablet_manager.proofs.manager.Manager.ack.Goals as goal
 pub returns-clause-state : goal.returns-clause-state
 returns-clause-state c =
     let primary : is_primary_of c.self.inside.stand c.args.term ≡ true = grind (arith, common_steps) in
-    rw (← c.self.view_is) (acked_state (managed_of c.self.inside) c.raise.new.self c.args.from.now c.args.term c.args.index primary c.raise.ensures.acked)
+    rw (← c.self.view_is) (acked_state (managed_of c.self.inside) c.ack.new.self c.args.from.now c.args.term c.args.index primary c.ack.ensures.acked)

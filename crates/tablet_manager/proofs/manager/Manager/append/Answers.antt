@@ -14,6 +14,9 @@ invariant_of-self-2 c =
     let e : Entry = c.args.entry.now in
     let longer : c.append.new.self.entries ≡ log ++ e ∷ [] = ap (λ (l : LogState). l.entries) c.in_ok-append.ensures.ok in
     record {
+      shard = c.self.invariant.shard;
+      declared = c.self.invariant.declared;
+      aliases = c.self.invariant.aliases;
       newest = c.names_after-newest_is_own.ensures
           ∙ ap (λ (n : ℕ). names_after n c.self.inside.newest_is_own me.alias e.kind) c.newest_row.ensures
           ∙ ap (λ (b : Bool). names_after (newest_row log) b me.alias e.kind) c.self.invariant.newest

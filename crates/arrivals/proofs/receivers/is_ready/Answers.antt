@@ -1,0 +1,9 @@
+use Rattle.std.proofs.Common.{◌∙◌}
+use Rattle.shard_state.specs.State.{data_of}
+use Rattle.arrivals.proofs.RowLemmas.{outcome_at}
+use Rattle.arrivals.proofs.receivers.is_ready.Goals as goal
+
+pub returns-in-WaitTold : goal.returns-in-WaitTold
+returns-in-WaitTold c =
+    rw c.in-WaitTold.is
+    (c.has_outcome.ensures ∙ outcome_at (data_of c.args.fields.now) c.args.to.now c.args.manager.now c.args.term _ c.requires.there c.requires.group)
