@@ -1,3 +1,4 @@
 pub mod RowLemmas
 pub mod ManagedLemmas
 pub mod PlaceLemmas
+pub mod StreamLemmas

@@ -3,6 +3,7 @@
 
 mod manager;
 mod plain_log;
+mod replica;
 #[cfg(test)]
 mod tests;
 

@@ -8,11 +8,12 @@ ghost use Rattle.gtid_sets.specs.declared.entry.Kind.TheVariants as kinds;
 ghost use Rattle.shard_calls.specs.declared.call.Call.TheVariants as calls;
 ghost use Rattle.shard_calls.specs.declared.answer.Answer.TheVariants as answers;
 ghost use Rattle.shard_calls.specs.Logs.{position_of, own_number, greatest_number, next_gtid, with_entry, with_own};
-ghost use Rattle.shard_calls.specs.Stands.{is_down, waits_for};
+ghost use Rattle.shard_calls.specs.Stands.{is_down};
 ghost use Rattle.shard_calls.specs.Tablets.{opened, kept_or_promoted, answer_to, after_call, status_of, accepts, after_ack, is_told, is_row_told, writes, writes_own, writes_local, after_crash, restarts, with_row};
 ghost use Rattle.tablet_manager.specs.Managed.{Managed, state_of, with_log, ackers_of, SameTablet, names_after};
 
 use crate::plain_log::PlainLog;
+use crate::replica::stand_behind;
 use durability::Durability;
 use gtid_sets::{Entry, Gtid, GtidSet, Kind, covers};
 use replication::AckTable;
@@ -73,20 +74,6 @@ fn names_after(newest: u64, names: bool, me: &Alias, kind: &Kind) -> bool
             (*term > 0 && *term == newest && own) || names
         }
         Kind::Local => names,
-    }
-}
-
-/// A replica that waits for this entry now.
-fn waits_for(stand: &Stand, next: u64) -> Stand
-    ensures { result ≡ waits_for stand.now next }
-{
-    match stand {
-        Stand::Replica { source, term, .. } => Stand::Replica {
-            source: *source,
-            term: *term,
-            next,
-        },
-        other => *other,
     }
 }
 
@@ -442,12 +429,14 @@ impl Manager {
         ensures who { SameTablet self.old self.new }
         ensures err { OnErr result (self.new ≡ self.old) }
     {
-        if !self.stand.takes_from(from, term, after) {
-            return Ok(Accepted::Ignored);
+        match stand_behind(&self.stand, from, term, after, index) {
+            Some(stand) => {
+                self.append_new(entry)?;
+                self.stand = stand;
+                Ok(Accepted::Taken)
+            }
+            None => Ok(Accepted::Ignored),
         }
-        self.append_new(entry)?;
-        self.stand = waits_for(&self.stand, index + 1);
-        Ok(Accepted::Taken)
     }
 
     /// Notes that a tablet has the first `index` entries of this one's log, if this one is the primary of the term. It takes no memory.
