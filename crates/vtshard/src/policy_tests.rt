@@ -184,11 +184,16 @@ finish p
             printed: "blocked: main\n",
             status: 7,
         },
-        // The link is mended before its time is over.
-        Row {
-            script: &[
-                TWO_REPLICAS,
-                "cut zone1-100 zone1-101
+    ];
+    plays(&rt, rt.alloc(), &rows)
+}
+
+#[test]
+fn a_link_mended_in_time_brings_the_acknowledgement(rt: HostRuntime) -> Result<(), Fail> {
+    let rows = [Row {
+        script: &[
+            TWO_REPLICAS,
+            "cut zone1-100 zone1-101
 start p PlannedReparentShard commerce/0 --new-primary zone1-100
 turn p 50
 tick 14999ms
@@ -196,11 +201,10 @@ turn p 50
 mend zone1-100 zone1-101
 finish p
 ",
-            ],
-            printed: "[p] PlannedReparentShard commerce/0: promoted zone1-0000000100 in term 1\n",
-            status: 0,
-        },
-    ];
+        ],
+        printed: "[p] PlannedReparentShard commerce/0: promoted zone1-0000000100 in term 1\n",
+        status: 0,
+    }];
     plays(&rt, rt.alloc(), &rows)
 }
 
@@ -272,7 +276,14 @@ finish w
 ",
             status: 0,
         },
-        // The acknowledgement is message 10. Where it is lost, that of the next entry stands for both.
+    ];
+    plays(&rt, rt.alloc(), &rows)
+}
+
+/// The acknowledgement is message 10.
+#[test]
+fn the_next_acknowledgement_stands_for_a_lost_one(rt: HostRuntime) -> Result<(), Fail> {
+    let rows = [
         Row {
             script: &[
                 TWO_REPLICAS,
@@ -306,12 +317,17 @@ blocked: w
 ",
             status: 7,
         },
-        // A primary that comes up again is primary no more, so nobody is told.
-        Row {
-            script: &[
-                TWO_REPLICAS,
-                REPARENT,
-                "cut zone1-100 zone1-101
+    ];
+    plays(&rt, rt.alloc(), &rows)
+}
+
+#[test]
+fn a_primary_that_came_up_again_tells_nobody(rt: HostRuntime) -> Result<(), Fail> {
+    let rows = [Row {
+        script: &[
+            TWO_REPLICAS,
+            REPARENT,
+            "cut zone1-100 zone1-101
 start w write 1
 turn w 50
 crash zone1-100 keep 0
@@ -319,13 +335,12 @@ restart zone1-100
 mend zone1-100 zone1-101
 finish w
 ",
-            ],
-            printed: "PlannedReparentShard commerce/0: promoted zone1-0000000100 in term 1
+        ],
+        printed: "PlannedReparentShard commerce/0: promoted zone1-0000000100 in term 1
 [w] write: unknown 00000000-0000-4000-8000-000000000100:2 on zone1-0000000100 in term 1
 ",
-            status: 1,
-        },
-    ];
+        status: 1,
+    }];
     plays(&rt, rt.alloc(), &rows)
 }
 
