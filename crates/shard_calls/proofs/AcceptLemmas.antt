@@ -34,7 +34,7 @@ use Rattle.shard_calls.proofs.StepLemmas.{alias_found}
 use Rattle.shard_calls.proofs.GroupLemmas.{group_at}
 use Rattle.shard_calls.proofs.RunLemmas.{step_along, later_at, whole_at, told_by_tell, told_by_wait}
 
-passed : {A : Type 0} (test : A → Bool) (o : Option A) → passes test o ≡ true → (x : A) × (o ≡ Some x) × (test x ≡ true)
+pub passed : {A : Type 0} (test : A → Bool) (o : Option A) → passes test o ≡ true → (x : A) × (o ≡ Some x) × (test x ≡ true)
 passed test None h = absurd (false≢true h)
 passed test (Some x) h = (x, refl, h)
 
@@ -50,7 +50,7 @@ record ToldHere (config : Config) (w : World) (e : Entry) (t : ℕ) : Type 0 whe
   told : is_told (group_of config) me (w.tablets a) index ≡ true
   at : numbered (w.tablets a).log index ≡ Some e
 
-row_told : (g : Group) (me : Tablet) (s : TabletState) (o : Option ℕ) (index : ℕ) → o ≡ Some index
+pub row_told : (g : Group) (me : Tablet) (s : TabletState) (o : Option ℕ) (index : ℕ) → o ≡ Some index
     → (elim o as (λ _. Bool) [ Some i ↦ is_told g me s i | None ↦ false ]) ≡ true → is_told g me s index ≡ true
 row_told g me s o index is told =
     subst (λ (p : Option ℕ). (elim p as (λ _. Bool) [ Some i ↦ is_told g me s i | None ↦ false ]) ≡ true) is told
@@ -83,7 +83,7 @@ has_entry : (log source : List Entry) (acked index : ℕ) (e : Entry) → HasFir
 has_entry log source acked zero e first le at = absurd (let none : None ≡ Some e = at in cc)
 has_entry log source acked (suc n) e first le at = first n e (let less : n < acked = grind (arith, nat_tests) in less) at
 
-is_in : (log : List Entry) (index : ℕ) (e : Entry) → numbered log index ≡ Some e → IsIn log e
+pub is_in : (log : List Entry) (index : ℕ) (e : Entry) → numbered log index ≡ Some e → IsIn log e
 is_in log zero e at = absurd (let none : None ≡ Some e = at in cc)
 is_in log (suc n) e at = (n, at)
 

@@ -49,7 +49,7 @@ use Rattle.shard_calls.proofs.MoveLemmas.{whole, one_more, unless_held}
 -- ---- an entry that is taken
 
 -- what is taken comes from the source in its term, behind what the replica has
-taken_stand : (at : Stand) (from : Alias) (term before : ℕ) → takes_from at from term before ≡ true → at ≡ stands.Replica from term before
+pub taken_stand : (at : Stand) (from : Alias) (term before : ℕ) → takes_from at from term before ≡ true → at ≡ stands.Replica from term before
 taken_stand stands.Down from term before h = absurd (false≢true h)
 taken_stand stands.Stopped from term before h = absurd (false≢true h)
 taken_stand (stands.Primary t) from term before h = absurd (false≢true h)
@@ -61,7 +61,7 @@ taken_stand (stands.Replica source t next) from term before h =
     let names : source ≡ from = alias_eq_is source from (both_left (alias_eq source from) (t == term) front) in
     ap (λ (a : Alias). stands.Replica a t next) names ∙ ap (λ (u : ℕ). stands.Replica from u next) terms ∙ ap (λ (n : ℕ). stands.Replica from term n) place
 
-took : (from : Alias) (term before index : ℕ) (x : Entry) (s : TabletState) → (accepts from term before index x s).says ≡ accepteds.Taken
+pub took : (from : Alias) (term before index : ℕ) (x : Entry) (s : TabletState) → (accepts from term before index x s).says ≡ accepteds.Taken
     → takes_from s.stand from term before ≡ true
 took from term before index x s =
     chosen (λ v. v.says ≡ accepteds.Taken → takes_from s.stand from term before ≡ true) (takes_from s.stand from term before) _ _
@@ -110,7 +110,7 @@ has_before w a from term before index i sound closed bridge place at k e less th
     of_order (inr high) = bridge.has k e high (omega (arith, less, place)) there
 
 -- it has taken so many entries
-taken_follows : (config : Config) (w : World) (a from : Alias) (term before index : ℕ) (x : Entry) → IsConfig config → IsSoundWorld w → IsUniqueWorld config w
+pub taken_follows : (config : Config) (w : World) (a from : Alias) (term before index : ℕ) (x : Entry) → IsConfig config → IsSoundWorld w → IsUniqueWorld config w
     → IsClosedWorld w → Bridges (w.tablets a).log (w.tablets from).log before index → numbered (w.tablets from).log index ≡ Some x
     → (w.tablets a).stand ≡ stands.Replica from term before → Follows (with_entry (w.tablets a).log x) (w.tablets from).log index
 taken_follows config w a from term before zero x is sound unique closed bridge at stand = absurd (let none : None ≡ Some x = at in cc)
@@ -131,20 +131,20 @@ taken_follows config w a from term before (suc i) x is sound unique closed bridg
 -- ---- what a tablet's state says
 
 -- with the same stand and notes, and a longer log
-kept : (config : Config) (w v : World) (a : Alias) (s : TabletState) → Known config w v → IsFront (w.tablets a).log s.log → s.stand ≡ (w.tablets a).stand
+pub kept : (config : Config) (w v : World) (a : Alias) (s : TabletState) → Known config w v → IsFront (w.tablets a).log s.log → s.stand ≡ (w.tablets a).stand
     → s.acked ≡ (w.tablets a).acked → Holds v a s
 kept config w v a s known front stand acked = record {
   stand = subst (λ (x : Stand). StandSays v s.log x) (sym stand) (stand_stays w v _ _ (w.tablets a).stand known.later front (known.closed.tablets a).stand);
   noted = λ r. subst (λ (f : Alias → ℕ). Follows (v.tablets r).log (v.tablets a).log (f r)) (sym acked) (noted_stays config w v a known r);
 }
 
-same_kept : (config : Config) (w v : World) (a : Alias) (s : TabletState) → Known config w v → s.log ≡ (w.tablets a).log → s.stand ≡ (w.tablets a).stand
+pub same_kept : (config : Config) (w v : World) (a : Alias) (s : TabletState) → Known config w v → s.log ≡ (w.tablets a).log → s.stand ≡ (w.tablets a).stand
     → s.acked ≡ (w.tablets a).acked → Holds v a s
 same_kept config w v a s known log stand acked =
     kept config w v a s known (subst (λ (l : List Entry). IsFront (w.tablets a).log l) (sym log) (whole (w.tablets a).log)) stand acked
 
 -- a stand that says nothing
-quiet : (config : Config) (w v : World) (a : Alias) (s : TabletState) → Known config w v → StandSays v s.log s.stand → s.acked ≡ (w.tablets a).acked → Holds v a s
+pub quiet : (config : Config) (w v : World) (a : Alias) (s : TabletState) → Known config w v → StandSays v s.log s.stand → s.acked ≡ (w.tablets a).acked → Holds v a s
 quiet config w v a s known stand acked = record {
   stand = stand;
   noted = λ r. subst (λ (f : Alias → ℕ). Follows (v.tablets r).log (v.tablets a).log (f r)) (sym acked) (noted_stays config w v a known r);
@@ -154,7 +154,7 @@ either_holds : (v : World) (a : Alias) (b : Bool) (s t : TabletState) → Holds 
 either_holds v a true s t p q = p
 either_holds v a false s t p q = q
 
-joined : (v : World) (log : List Entry) (source : Alias) (n : ℕ) → 1 ≡ suc n → Follows log (v.tablets source).log n
+pub joined : (v : World) (log : List Entry) (source : Alias) (n : ℕ) → 1 ≡ suc n → Follows log (v.tablets source).log n
 joined v log source n is = let none : 0 ≡ n = omega (arith, is) in subst (λ (k : ℕ). Follows log (v.tablets source).log k) none (nothing_first log (v.tablets source).log)
 
 abbrev VerdictHolds : World → Alias → Verdict Answer → Type 0
@@ -226,7 +226,7 @@ greater_noted log source m n p q = of_test (nat_lt m n) refl
     of_test true e = let same : n ≡ max m n = grind (arith, nat_tests) in subst (λ (k : ℕ). Follows log source k) same q
     of_test false e = let same : m ≡ max m n = grind (arith, nat_tests) in subst (λ (k : ℕ). Follows log source k) same p
 
-heard_one : (v : World) (a from r : Alias) (index : ℕ) (old : ℕ) (b : Bool) → alias_eq r from ≡ b → Follows (v.tablets from).log (v.tablets a).log index
+pub heard_one : (v : World) (a from r : Alias) (index : ℕ) (old : ℕ) (b : Bool) → alias_eq r from ≡ b → Follows (v.tablets from).log (v.tablets a).log index
     → Follows (v.tablets r).log (v.tablets a).log old → Follows (v.tablets r).log (v.tablets a).log (cond b (max index old) old)
 heard_one v a from r index old true is new before =
     greater_noted (v.tablets r).log (v.tablets a).log index old
@@ -294,7 +294,7 @@ at_place log i j e same at = subst (λ (k : ℕ). slice_get log k ≡ Some e) sa
 as_entry : (log : List Entry) (f e : Entry) → f ≡ e → IsIn log f → IsIn log e
 as_entry log f e same h = subst (λ (y : Entry). IsIn log y) same h
 
-needed_bridges : (config : Config) (w : World) (s r : Alias) (n : ℕ) (x : Indexed) → IsConfig config → IsUniqueWorld config w → 1 ≤ n
+pub needed_bridges : (config : Config) (w : World) (s r : Alias) (n : ℕ) (x : Indexed) → IsConfig config → IsUniqueWorld config w → 1 ≤ n
     → needed (w.tablets s) (w.tablets r) n ≡ Some x → Bridges (w.tablets r).log (w.tablets s).log n x.index
 needed_bridges config w s r n x is unique first h = record {
   within = number_within (w.tablets s).log x.index x.entry (needed_held (w.tablets s) (w.tablets r) n x first h);
@@ -333,7 +333,7 @@ offered_says config w r (stands.Replica s t n) content is sound unique at h =
     may_feed_says config w s r t n content (may_feed w s r t n) is unique first h
 
 -- the state that a taken entry leaves
-fed_state : (config : Config) (w : World) (k term before index : ℕ) (from to : Alias) (x : Entry) (m : Message) → numbered w.post k ≡ Some m
+pub fed_state : (config : Config) (w : World) (k term before index : ℕ) (from to : Alias) (x : Entry) (m : Message) → numbered w.post k ≡ Some m
     → m.content ≡ contents.Feeds from to term before index x → (accepts from term before index x (w.tablets to)).says ≡ accepteds.Taken
     → (after config w (events.Deliver k)).tablets to ≡ (accepts from term before index x (w.tablets to)).state
 fed_state config w k term before index from to x m here carries taken =
@@ -428,7 +428,7 @@ fed_closed config w v a from c (suc p) j n k term before source_term x row known
 abbrev Cases : List Entry → Entry → Entry → ℕ → Type 0
 Cases log x e n = (slice_get log n ≡ Some e) ⊎ ((n ≡ length log) × (x ≡ e))
 
-change_closed : (config : Config) (w v : World) (a : Alias) (ev : Event) (log : List Entry) (c : Alias) (n k term : ℕ) (row : Entry) → Known config w v
+pub change_closed : (config : Config) (w v : World) (a : Alias) (ev : Event) (log : List Entry) (c : Alias) (n k term : ℕ) (row : Entry) → Known config w v
     → (v.tablets a).log ≡ log → LogChange config w a ev log → slice_get log n ≡ Some row → row.kind ≡ kinds.Row term c → slice_get (v.tablets c).log k ≡ Some row
     → HasFirst (take n log) (v.tablets c).log k
 change_closed config w v a _ _ c n k term row known is SameLog at kind here =

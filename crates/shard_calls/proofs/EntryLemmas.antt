@@ -142,7 +142,7 @@ apart_push log x apart new i j e f p q same = of_cases (slice_get-push_cases log
     of_cases (inr a) (inl b) = absurd (new j f b (sym same ∙ ap (λ (y : Entry). y.gtid) (sym a.1)))
     of_cases (inr a) (inr b) = a.0 ∙ sym b.0
 
-apart_change : (config : Config) (w : World) (a : Alias) (ev : Event) (log : List Entry) → IsUniqueWorld config w → LogChange config w a ev log
+pub apart_change : (config : Config) (w : World) (a : Alias) (ev : Event) (log : List Entry) → IsUniqueWorld config w → LogChange config w a ev log
     → (i j : ℕ) (e f : Entry) → slice_get log i ≡ Some e → slice_get log j ≡ Some f → e.gtid ≡ f.gtid → i ≡ j
 apart_change config w a _ _ unique SameLog i j e f p q same = unique.apart a i j e f p q same
 apart_change config w a _ _ unique (RowEnters k d v p me m here carries found none caught) i j e f at_e at_f same =
@@ -175,7 +175,7 @@ home_own config v a me log k n e found is new at =
       held = subst (λ (b : Alias). Held (v.tablets b).log e) (sym name) (subst (λ (l : List Entry). Held l e) (sym is) (n, at));
     }
 
-home_in : (config : Config) (w v : World) (a : Alias) (ev : Event) (log : List Entry) (n : ℕ) (e : Entry) → IsSoundWorld w → IsUniqueWorld config w → IsLater w v
+pub home_in : (config : Config) (w v : World) (a : Alias) (ev : Event) (log : List Entry) (n : ℕ) (e : Entry) → IsSoundWorld w → IsUniqueWorld config w → IsLater w v
     → (v.tablets a).log ≡ log → LogChange config w a ev log → slice_get log n ≡ Some e → IsHome config v e
 home_in config w v a _ _ n e sound unique later is SameLog at = home_stays config w v e later (unique.home a n e at)
 home_in config w v a _ _ n e sound unique later is (RowEnters k d u p me m here carries found none caught) at =

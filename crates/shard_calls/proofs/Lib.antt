@@ -20,4 +20,3 @@ pub mod OutcomeLemmas
 pub mod RunLemmas
 pub mod GroupLemmas
 pub mod AcceptLemmas
-pub mod SafeLemmas

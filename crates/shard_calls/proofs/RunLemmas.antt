@@ -92,7 +92,7 @@ step_along config w (x ∷ ss) zero s run here =
     let same : x ≡ s = (let some : Some x ≡ Some s = here in cc) in subst (λ (y : Step). IsStep config w y) same run.0
 step_along config w (x ∷ ss) (suc i) s run here = step_along config (after config w x.event) ss i s run.1 here
 
-next_world : (config : Config) (w : World) (ss : List Step) (i : ℕ) (s : Step) → slice_get ss i ≡ Some s
+pub next_world : (config : Config) (w : World) (ss : List Step) (i : ℕ) (s : Step) → slice_get ss i ≡ Some s
     → world_after config w (take (suc i) ss) ≡ after config (world_after config w (take i ss)) s.event
 next_world config w [] i s here = absurd (let none : None ≡ Some s = here in cc)
 next_world config w (x ∷ ss) zero s here =
@@ -244,7 +244,7 @@ one_promotion config ss run i j u a b before others p q = of_order (nat_lt i j) 
 -- ---- what is told
 
 -- a row that passes the test
-row_found : (log : List Entry) (t : ℕ) → has_row log t ≡ true → (n : ℕ) × (e : Entry) × (slice_get log n ≡ Some e) × (is_row_of t e ≡ true)
+pub row_found : (log : List Entry) (t : ℕ) → has_row log t ≡ true → (n : ℕ) × (e : Entry) × (slice_get log n ≡ Some e) × (is_row_of t e ≡ true)
 row_found [] t h = absurd (false≢true h)
 row_found (x ∷ log) t h = of_test (is_row_of t x) refl h (λ k. row_found log t k)
   where
@@ -254,12 +254,12 @@ row_found (x ∷ log) t h = of_test (is_row_of t x) refl h (λ k. row_found log 
     of_test true is k rest = (0, x, refl, is)
     of_test false is k rest = let r = rest k in (suc r.0, r.1, r.2, r.3)
 
-row_kind : (k : Kind) (t : ℕ) → (elim (row_term k) as (λ _. Bool) [ Some u ↦ u == t | None ↦ false ]) ≡ true → (c : Alias) × (k ≡ kinds.Row t c)
+pub row_kind : (k : Kind) (t : ℕ) → (elim (row_term k) as (λ _. Bool) [ Some u ↦ u == t | None ↦ false ]) ≡ true → (c : Alias) × (k ≡ kinds.Row t c)
 row_kind (kinds.Write term client number) t h = absurd (false≢true h)
 row_kind (kinds.Row term a) t h = let same : term ≡ t = grind (arith, nat_tests) in (a, ap (λ (u : ℕ). kinds.Row u a) same)
 row_kind kinds.Local t h = absurd (false≢true h)
 
-own_row : (log : List Entry) (at : Stand) (t : ℕ) → is_primary_of at t ≡ true → HasItsRow log at → has_row log t ≡ true
+pub own_row : (log : List Entry) (at : Stand) (t : ℕ) → is_primary_of at t ≡ true → HasItsRow log at → has_row log t ≡ true
 own_row log stands.Down t is row = absurd (false≢true is)
 own_row log stands.Stopped t is row = absurd (false≢true is)
 own_row log (stands.Primary u) t is row = let same : u ≡ t = grind (arith, nat_tests) in subst (λ (v : ℕ). has_row log v ≡ true) same row
@@ -307,31 +307,6 @@ told_first config w _ _ _ sound step (ToWrite c s x e command wrote at) =
     primary_first w x.alias x.term sound (told_by_tell config w c s x step command wrote).0
 told_first config w _ _ _ sound step (ToWait k n c t until index a me m e here carries found told at_row at) =
     primary_first w a t sound (told_by_wait w.group me t until (w.tablets a) told).0
-
-same_first : (xs ys : List Intent) (x y : Intent) → IsFront xs ys → slice_get xs 0 ≡ Some x → slice_get ys 0 ≡ Some y → x ≡ y
-same_first xs ys x y front p q = same_some x y (sym (get_front xs ys 0 x front p) ∙ q)
-
--- of all terms, one comes first
-one_first : (config : Config) (ss : List Step) (i j t u : ℕ) (a b : Alias) → IsRun config ss → i ≤ j → IsIntended (world_at config ss i).topo t a
-    → IsIntended (world_at config ss j).topo u b → t ≡ u
-one_first config ss i j t u a b run le p q =
-    let front = intents_stay_over_steps _ _ (later_at config ss i j run le).topo in
-    sym p.first.2 ∙ ap (λ (x : Intent). x.term) (same_first _ _ p.first.0 q.first.0 front p.first.1 q.first.1) ∙ q.first.2
-
-pub holds_told : OfEveryRun HoldsTold
-holds_told config ss run i j u t a before e p q less = absurd (of_order (nat_lt j i) refl)
-  where
-    promoted : IsIntended (world_at config ss i).topo u a
-    promoted = (promotion_comes config ss i u a before run p).intended
-
-    told : (c : Alias) × IsIntended (world_at config ss j).topo t c
-    told = told_first config (world_at config ss j) q.step e t (sound_at config ss j run) (step_along config (opening config) ss j q.step run q.here) q.tells
-
-    of_order : (x : Bool) → nat_lt j i ≡ x → ⊥
-    of_order true before_it =
-        let same : t ≡ u = one_first config ss j i t u told.0 a run (let le : j ≤ i = grind (arith, nat_tests) in le) told.1 promoted in omega (arith, same, less)
-    of_order false after_it =
-        let same : u ≡ t = one_first config ss i j u t a told.0 run (let le : i ≤ j = grind (arith, nat_tests) in le) promoted told.1 in omega (arith, same, less)
 
 -- ---- the laws over the tablets of one shard
 
@@ -391,10 +366,10 @@ pub answers_have_causes : OfEveryRun AnswersHaveCauses
 answers_have_causes config ss run i c x here = (step_along config (opening config) ss i (record { event = events.End c x; reply = replies.Ok }) run here).met
 
 -- what is known of what was said and written
-record IsTruthful (w : World) : Type 0 where
-  sound : IsSoundWorld w
-  telling : IsTellingWorld w
-  wrote : AllWroteFits w
+pub record IsTruthful (w : World) : Type 0 where
+  pub sound : IsSoundWorld w
+  pub telling : IsTellingWorld w
+  pub wrote : AllWroteFits w
 
 truthful_along : (config : Config) (w : World) (ss : List Step) (i : ℕ) → IsRunFrom config w ss → IsTruthful w → IsTruthful (world_after config w (take i ss))
 truthful_along config w [] zero run h = h
@@ -406,7 +381,7 @@ truthful_along config w (s ∷ ss) (suc i) run h = truthful_along config (after 
   wrote = wrote_after config w s.event h.sound h.wrote;
 })
 
-truthful_at : (config : Config) (ss : List Step) (i : ℕ) → IsRun config ss → IsTruthful (world_at config ss i)
+pub truthful_at : (config : Config) (ss : List Step) (i : ℕ) → IsRun config ss → IsTruthful (world_at config ss i)
 truthful_at config ss i run =
     truthful_along config (opening config) ss i run
     (record { sound = sound_opening config; telling = telling_opening config; wrote = wrote_opening config })

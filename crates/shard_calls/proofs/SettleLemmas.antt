@@ -25,12 +25,9 @@ use Rattle.shard_calls.specs.Deliveries.{if_declared, asked, fed, after_arrival,
 use Rattle.shard_base.specs.Options.{◌>>=◌}
 use Rattle.shard_calls.specs.Writes.{told_act, tell_of}
 use Rattle.shard_calls.specs.Table.{after}
+pub use Rattle.shard_calls.specs.Outcomes.{settled_in}
 use Rattle.shard_calls.proofs.ListLemmas.{numbered_changed, numbered_other, slice_get-append}
 use Rattle.shard_calls.proofs.PostLemmas.{post_take, post_by, post_declared, post_write, post_told, post_end}
-
-abbrev pub settled_in : Option Message → Option Settled
-settled_in None = None
-settled_in (Some m) = m.settled
 
 pub data Settling (w : World) : Event → ℕ → Option Settled → Type 0 where
   ByAnswer : (j k c : ℕ) (from : Alias) (says : Answer) (a : Message) → numbered w.post j ≡ Some a → a.content ≡ contents.Answers c k from says

@@ -29,7 +29,7 @@ use Rattle.shard_calls.specs.Moves.{TabletMove, Stays}
 use Rattle.shard_calls.specs.Laws.{IsSound, IsPromised, RowsWithin, WaitsForEntry}
 use Rattle.shard_calls.specs.World.{Config, World, numbered, open_command, term_in, is_eligible_alias}
 use Rattle.shard_calls.specs.Messages.{feeds_term, Indexed, needed_from, needed, may_feed, is_cut, is_under_way, link_between, feed_of, offered_by, has_come_to}
-use Rattle.shard_calls.specs.Evidence.{intends, is_first, has_ground}
+use Rattle.shard_calls.specs.Evidence.{intends, has_ground}
 use Rattle.shard_calls.specs.Locks.{by_term}
 use Rattle.shard_calls.specs.Deliveries.{may_send, may_ask_in, asks_status}
 use Rattle.shard_calls.specs.Table.{Met, after}
@@ -76,8 +76,7 @@ asked_in config w c a calls.Stop u sound met = tt
 asked_in config w c a calls.Demote u sound met = tt
 asked_in config w c a (calls.Promote p) u sound met =
     let front : (is_eligible_alias config a && intends w.topo u a) ≡ true = both_left (is_eligible_alias config a && intends w.topo u a) (has_ground config w c u p) met in
-    let ground : has_ground config w c u p ≡ true = both_right (is_eligible_alias config a && intends w.topo u a) (has_ground config w c u p) met in
-    intended_by w.topo u a sound.topo (both_right (is_eligible_alias config a) (intends w.topo u a) front) (both_left (is_first w.topo u) (count p == 0) ground)
+    intended_by w.topo u a (both_right (is_eligible_alias config a) (intends w.topo u a) front)
 asked_in config w c a (calls.SetSource source t p) u sound met = grind (arith, nat_tests)
 asked_in config w c a (calls.WaitTold until) u sound met = tt
 
@@ -135,12 +134,12 @@ below_greatest f (x ∷ log) zero e h =
 below_greatest f (x ∷ log) (suc n) e h = let below = below_greatest f log n e h in grind (arith, below)
 
 -- no entry of a log is a later row than its newest
-row_numbered : (log : List Entry) (i : ℕ) (e : Entry) → numbered log i ≡ Some e → row_or_zero e ≤ newest_row log
+pub row_numbered : (log : List Entry) (i : ℕ) (e : Entry) → numbered log i ≡ Some e → row_or_zero e ≤ newest_row log
 row_numbered log zero e h = absurd (let none : None ≡ Some e = h in cc)
 row_numbered log (suc n) e h = below_greatest row_or_zero log n e h
 
 -- what feeds the replicas of a term has no row of a later one
-feeds_within : (s : TabletState) (at : Stand) (t : ℕ) → s.stand ≡ at → feeds_term at t ≡ true → IsSound s → newest_row s.log ≤ t
+pub feeds_within : (s : TabletState) (at : Stand) (t : ℕ) → s.stand ≡ at → feeds_term at t ≡ true → IsSound s → newest_row s.log ≤ t
 feeds_within s stands.Down t is feeds sound = absurd (false≢true feeds)
 feeds_within s stands.Stopped t is feeds sound = absurd (false≢true feeds)
 feeds_within s (stands.Primary u) t is feeds sound =
@@ -208,7 +207,7 @@ find_alias a me (t ∷ ts) h = first_alias a me t ts (alias_eq t.alias a) refl h
 pub alias_found : (config : Config) (a : Alias) (me : Tablet) → tablet_of config.tablets a ≡ Some me → me.alias ≡ a
 alias_found config a me found = alias_eq_is me.alias a (find_alias a me config.tablets found)
 
-abbrev RowIn : World → Alias → List Entry → Entry → ℕ → Alias → Type 0
+abbrev pub RowIn : World → Alias → List Entry → Entry → ℕ → Alias → Type 0
 RowIn w a log e u c = IsIntended w.topo u c × ((Held (w.tablets c).log e) ⊎ ((c ≡ a) × Held log e))
 
 row_was : (w : World) (a : Alias) (log : List Entry) (n : ℕ) (e : Entry) (u : ℕ) (c : Alias) → IsSoundWorld w → slice_get (w.tablets a).log n ≡ Some e
@@ -260,7 +259,7 @@ row_own w a me k n e u c sound none at is =
     of_cases (inl old) = row_was w a _ n e u c sound old is
     of_cases (inr new) = absurd (no_row k u c none (ap (λ (x : Entry). x.kind) new.1 ∙ is))
 
-row_in : (config : Config) (w : World) (a : Alias) (ev : Event) (log : List Entry) (n : ℕ) (e : Entry) (u : ℕ) (c : Alias) → IsSoundWorld w
+pub row_in : (config : Config) (w : World) (a : Alias) (ev : Event) (log : List Entry) (n : ℕ) (e : Entry) (u : ℕ) (c : Alias) → IsSoundWorld w
     → LogChange config w a ev log → slice_get log n ≡ Some e → e.kind ≡ kinds.Row u c → RowIn w a log e u c
 row_in config w a _ _ n e u c sound SameLog at is = row_was w a _ n e u c sound at is
 row_in config w a _ _ n e u c sound (RowEnters k d v p me m here carries found none caught) at is =

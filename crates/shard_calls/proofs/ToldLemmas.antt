@@ -108,7 +108,7 @@ row_if_longer xs ys u (answers.NotCaughtUp missing) front h = tt
 row_if_longer xs ys u (answers.Errant extra) front h = tt
 row_if_longer xs ys u (answers.NotStanding newest) front h = tt
 
-answer_stays : (w v : World) (asked : ℕ) (from : Alias) (says : Answer) → IsLater w v → Stay w.post v.post → AnswerFits w asked from says → AnswerFits v asked from says
+pub answer_stays : (w v : World) (asked : ℕ) (from : Alias) (says : Answer) → IsLater w v → Stay w.post v.post → AnswerFits w asked from says → AnswerFits v asked from says
 answer_stays w v asked from says later stay h =
     let r = stay asked h.there h.at in
     record {
@@ -121,7 +121,7 @@ answer_stays w v asked from says later stay h =
       row = row_if_longer (w.tablets from).log (v.tablets from).log h.term says (later.logs from) h.row;
     }
 
-answering_stays : (w v : World) (k n : ℕ) → Stay w.post v.post → Answering w k n → Answering v k n
+pub answering_stays : (w v : World) (k n : ℕ) → Stay w.post v.post → Answering w k n → Answering v k n
 answering_stays w v k n stay h =
     let r = stay n h.message h.at in
     record { message = r.0; command = h.command; from = h.from; says = h.says; at = r.1; carries = r.2 ∙ h.carries }
@@ -143,7 +143,7 @@ told_truth true true log u at = tt
 told_truth true false log u at = tt
 told_truth false c log u at = tt
 
-call_truth : (g : Group) (me : Tablet) (u : ℕ) (call : Call) (s : TabletState) → RowIfPromoted (after_call g me u call s).log u (answer_to g me u call s)
+pub call_truth : (g : Group) (me : Tablet) (u : ℕ) (call : Call) (s : TabletState) → RowIfPromoted (after_call g me u call s).log u (answer_to g me u call s)
 call_truth g me u calls.Status s = tt
 call_truth g me u calls.Stop s = in_term_truth u s (stops u) tt
 call_truth g me u calls.Demote s =
@@ -162,7 +162,7 @@ call_truth g me u (calls.WaitTold until) s =
     in_term_truth u s (waits_told g me u) (told_truth (is_primary_of s.stand u) (is_row_told g me s u) s.log u s.stand)
 
 -- the state that a call leaves
-asked_state : (config : Config) (w : World) (k c u : ℕ) (a : Alias) (call : Call) (me : Tablet) (m : Message) → numbered w.post k ≡ Some m
+pub asked_state : (config : Config) (w : World) (k c u : ℕ) (a : Alias) (call : Call) (me : Tablet) (m : Message) → numbered w.post k ≡ Some m
     → m.content ≡ contents.Asks c u a call → tablet_of config.tablets a ≡ Some me
     → (after config w (events.Deliver k)).tablets a ≡ after_call w.group me u call (w.tablets a)
 asked_state config w k c u a call me m here carries found =

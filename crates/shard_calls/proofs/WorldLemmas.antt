@@ -22,15 +22,14 @@ use Rattle.shard_calls.specs.declared.post.Message.{Message}
 use Rattle.shard_calls.specs.Logs.{row_or_zero}
 use Rattle.shard_calls.specs.Laws.{IsSound, FitsTerm}
 use Rattle.shard_calls.specs.World.{World, numbered}
-use Rattle.shard_calls.specs.Evidence.{is_alias_of, intends, is_first}
+use Rattle.shard_calls.specs.Evidence.{is_alias_of, intends}
 use Rattle.shard_calls.proofs.ListLemmas.{slice_get-append}
 
 -- ---- what is meant
 
--- the term intends the tablet, and no intent came before
+-- the term intends the tablet
 pub record IsIntended (topo : Topology) (u : ℕ) (a : Alias) : Type 0 where
   pub intent : intent_of topo u ≡ Some (record { term = u; alias = a })
-  pub first : (i : Intent) × (slice_get topo.intents 0 ≡ Some i) × (i.term ≡ u)
 
 -- the entry stands in the log
 abbrev pub Held : List Entry → Entry → Type 0
@@ -74,7 +73,6 @@ numbered_front xs ys (suc n) x front h = get_front xs ys n x front h
 pub intended_stays : (s t : Topology) (u : ℕ) (a : Alias) → TopoMove s t → IsIntended s u a → IsIntended t u a
 intended_stays s t u a move h = record {
   intent = intent_of_term_stays s t u (record { term = u; alias = a }) move h.intent;
-  first = (h.first.0, get_front s.intents t.intents 0 h.first.0 (intents_stay s t move) h.first.1, h.first.2);
 }
 
 -- a later world: the topology has moved on, and the logs begin as they were
@@ -148,26 +146,6 @@ intent_found (Some i) topo u a found is =
     let term = same_term i u (find_passes (λ j. j.term == u) topo.intents i found) in
     ap (λ (x : Intent). Some x) (intent_is i u a term (alias_eq_is i.alias a is))
 
-not_below : (t u : ℕ) (b : Bool) → not (nat_lt t u || b) ≡ true → u ≤ t
-not_below t u b h = grind (arith, nat_tests)
-
--- where no intent is earlier than a term that intends something, its intent is the first of all
-first_found : (is : List Intent) (u : ℕ) (i : Intent) → TermsRise is → not (list_any (λ j. nat_lt j.term u) is) ≡ true
-    → find (λ j. j.term == u) is ≡ Some i → (h : Intent) × (slice_get is 0 ≡ Some h) × (h.term ≡ u)
-first_found [] u i rise none h = absurd (let no_one : None ≡ Some i = h in cc)
-first_found (x ∷ is) u i rise none h = of_test (x.term == u) refl h
-  where
-    of_test : (b : Bool) → (x.term == u) ≡ b → cond b (Some x) (find (λ j. j.term == u) is) ≡ Some i
-        → (h : Intent) × (slice_get (x ∷ is) 0 ≡ Some h) × (h.term ≡ u)
-    of_test true e k = (x, refl, same_term x u e)
-    of_test false e k =
-        let above : x.term < i.term = found_all (λ j. x.term < j.term) (λ j. j.term == u) is i k rise.0 in
-        let term = same_term i u (find_passes (λ j. j.term == u) is i k) in
-        let low = not_below x.term u (list_any (λ j. nat_lt j.term u) is) none in
-        absurd (omega (arith, above, term, low))
-
--- the grounds of a first reparent
-pub intended_by : (topo : Topology) (u : ℕ) (a : Alias) → TopoMoves fresh topo → intends topo u a ≡ true → is_first topo u ≡ true → IsIntended topo u a
-intended_by topo u a moves is first =
-    let found : intent_of topo u ≡ Some (record { term = u; alias = a }) = intent_found (intent_of topo u) topo u a refl is in
-    record { intent = found; first = first_found topo.intents u (record { term = u; alias = a }) (intents_are_in_order topo moves).0 first found }
+-- what the evidence says of the intent
+pub intended_by : (topo : Topology) (u : ℕ) (a : Alias) → intends topo u a ≡ true → IsIntended topo u a
+intended_by topo u a is = record { intent = intent_found (intent_of topo u) topo u a refl is }

@@ -17,4 +17,5 @@ pub mod Table
 pub mod Promotions
 pub mod RunLaws
 pub mod Answered
-pub mod Safe
+pub mod Winner
+pub mod Grounds

@@ -62,3 +62,8 @@ sending_of post acts.Gone = None
 -- the calls among these acts, in order
 abbrev pub sendings : List Message → List Act → List Sending
 sendings post acts = filter_map (sending_of post) acts
+
+-- what settled a message
+abbrev pub settled_in : Option Message → Option Settled
+settled_in None = None
+settled_in (Some m) = m.settled

@@ -26,9 +26,9 @@ pub use outcome::{Accepted, Restarted, Written};
 pub use post::{Content, Message, Settled};
 pub use run_laws::{
     acknowledged_is_held, each_answer_has_its_cause, each_step_is_a_move,
-    each_transaction_is_one_entry, every_history_is_safe, logs_are_closed, logs_grow_at_their_ends,
-    one_intent_in_a_term, one_promotion_in_a_term, promoted_holds_what_was_told,
-    tablets_stay_sound, term_of_topology_never_falls, told_is_accepted, told_is_kept,
+    each_transaction_is_one_entry, logs_are_closed, logs_grow_at_their_ends, one_intent_in_a_term,
+    one_promotion_in_a_term, tablets_stay_sound, term_of_topology_never_falls, told_is_accepted,
+    told_is_kept,
 };
 pub use stand::{Stand, Standing};
 pub use state::{Act, ActorState, CommandState, Shown, Wrote};

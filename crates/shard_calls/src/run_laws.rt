@@ -1,8 +1,7 @@
 //! What holds of every history of the shard machine. The functions do nothing: each one's contract is a law.
 
-ghost use Rattle.shard_calls.specs.Promotions.{OnePromotion, PromotesIntended, HoldsTold, KeepsTold};
+ghost use Rattle.shard_calls.specs.Promotions.{OnePromotion, PromotesIntended, KeepsTold};
 ghost use Rattle.shard_calls.specs.Answered.{ActsAreSteps, AnswersHaveCauses, OutcomesAreSteps};
-ghost use Rattle.shard_calls.specs.Safe.{IsSafe};
 ghost use Rattle.shard_calls.specs.RunLaws.{OfEveryRun, TabletsMove, TopologyMoves, TabletsAreSound, LogsOnlyGrow, TermNeverFalls, OneIntent, OfEveryShard, OneEntry, LogsAreClosed, AcksAreHeld, NotedIsHeld, ToldIsAccepted, NotToldIsLate};
 
 /// Each step changes each tablet, and the topology, by one move.
@@ -35,11 +34,6 @@ pub fn one_intent_in_a_term()
 pub fn one_promotion_in_a_term()
     ensures once { OfEveryRun OnePromotion }
     ensures intended { OfEveryRun PromotesIntended }
-{}
-
-/// A promoted tablet holds, before the row of its term, every entry that is ever told in an earlier term.
-pub fn promoted_holds_what_was_told()
-    ensures { OfEveryRun HoldsTold }
 {}
 
 /// What an answer tells is in the log of its tablet, for good.
@@ -77,9 +71,4 @@ pub fn each_answer_has_its_cause()
     ensures causes { OfEveryRun AnswersHaveCauses }
     ensures acts { OfEveryRun ActsAreSteps }
     ensures outcomes { OfEveryRun OutcomesAreSteps }
-{}
-
-/// All that holds of every history, gathered.
-pub fn every_history_is_safe()
-    ensures { OfEveryShard IsSafe }
 {}

@@ -4,7 +4,7 @@ ghost use Rattle.shard_names.specs.Tablets.{AreTablets, tablet_of};
 ghost use Rattle.tablet_manager.specs.Managed.{state_of};
 ghost use Rattle.shard_calls.specs.World.{group_of, open_of, open_command};
 ghost use Rattle.shard_calls.specs.Table.{Met, meets, answer, row_number, IsRun};
-ghost use Rattle.shard_calls.specs.Safe.{IsSafe};
+ghost use Rattle.shard_laws.specs.Safe.{IsSafe};
 ghost use Rattle.shard_state.specs.State.{Data, data_of, seen, config_in, world_seen, AreOfGroup};
 ghost use Rattle.arrivals.specs.Arrivals.{next_due, next_offered};
 ghost use Rattle.changes.specs.Makes.{IsFound};

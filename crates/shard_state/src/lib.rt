@@ -13,10 +13,7 @@ mod writes;
 pub use actors::{open_of, place_of};
 pub use declared::{is_declared, is_eligible_alias, is_link, names_declared};
 pub use fields::Fields;
-pub use locks::{
-    intend_reply, intends, is_alias_of, is_first, may_record, read_reply, record_reply,
-    taken_reply, took_nothing,
-};
+pub use locks::{intends, is_alias_of, is_first, may_record, took_nothing};
 pub use lookups::{open_command, term_of};
 pub use sends::{has_evidence, may_send};
 pub use tablets::{find_manager, is_down, manager_of, tablet_of};

@@ -3,14 +3,12 @@
 ghost use Rattle.std.specs.Prelude.{◌≡◌, ◌<◌, ◌-◌, ◌^◌, nat_eq, nat_lt, false};
 ghost use Rattle.std.specs.List.{find, list_any};
 ghost use Rattle.std.specs.Option.{option_copied};
-ghost use Rattle.topo_lock.specs.Topology.{admitted_by, answer_take, answer_intend, answer_record};
 ghost use Rattle.shard_calls.specs.World.{numbered, if_open};
 ghost use Rattle.shard_calls.specs.Evidence.{is_alias_of, intends, is_first};
-ghost use Rattle.shard_calls.specs.Locks.{took_nothing, by_term, may_record, taken_reply, read_reply, topo_reply};
-ghost use Rattle.shard_calls.specs.declared.event.Reply.TheVariants as replies;
+ghost use Rattle.shard_calls.specs.Locks.{took_nothing, by_term, may_record};
 
 use crate::lookups::open_command;
-use shard_calls::{CommandState, Reply, Seen};
+use shard_calls::CommandState;
 use shard_names::Alias;
 use topo_lock::{Intent, Topo};
 
@@ -78,75 +76,4 @@ pub fn is_first(topo: &Topo, term: u64) -> bool
     ensures { result ≡ is_first topo.now.topology term }
 {
     !has_earlier(topo.intents(), term)
-}
-
-/// What a Take would be answered.
-pub fn taken_reply(topo: &Topo) -> Reply
-    requires { topo.now.topology.term < 2 ^ 64 - 1 }
-    ensures { result ≡ taken_reply (answer_take topo.now.topology) }
-{
-    match topo.holder() {
-        Some(holder) => Reply::Taken {
-            term: topo.term(),
-            by: holder.actor,
-        },
-        None => Reply::Term {
-            term: topo.term() + 1,
-        },
-    }
-}
-
-/// What a Read would be answered.
-pub fn read_reply(topo: &Topo, term: Option<u64>) -> Reply
-    ensures { result ≡ by_term term replies.Ok (read_reply topo.now.topology) }
-{
-    match term {
-        Some(term) if topo.is_held_in(term) => Reply::Seen {
-            seen: Seen {
-                recorded: topo.recorded(),
-                last_intent: topo.last_intent(),
-            },
-        },
-        Some(_) => Reply::Lost { term: topo.term() },
-        None => Reply::Ok,
-    }
-}
-
-/// What the intent of the term, if there is one, answers to one who intends the tablet.
-fn admitted_reply(intents: &[Intent], term: u64, alias: &Alias) -> Reply
-    ensures { result ≡ topo_reply (admitted_by (find (λ i. nat_eq i.term term) intents.now) alias.now) }
-{
-    match intent_of(intents, term) {
-        Some(standing) => {
-            if standing.alias == *alias {
-                Reply::Ok
-            } else {
-                Reply::Stands {
-                    alias: standing.alias,
-                }
-            }
-        }
-        None => Reply::Ok,
-    }
-}
-
-/// What an Intend would be answered.
-pub fn intend_reply(topo: &Topo, term: Option<u64>, alias: &Alias) -> Reply
-    ensures { result ≡ by_term term replies.Ok (λ t. topo_reply (answer_intend topo.now.topology t alias.now)) }
-{
-    match term {
-        Some(term) if topo.is_held_in(term) => { admitted_reply(topo.intents(), term, alias) }
-        Some(_) => Reply::Lost { term: topo.term() },
-        None => Reply::Ok,
-    }
-}
-
-/// What a Record would be answered.
-pub fn record_reply(topo: &Topo, term: Option<u64>) -> Reply
-    ensures { result ≡ by_term term replies.Ok (λ t. topo_reply (answer_record topo.now.topology t)) }
-{
-    match term {
-        Some(term) if !topo.is_held_in(term) => Reply::Lost { term: topo.term() },
-        _ => Reply::Ok,
-    }
 }

@@ -8,8 +8,8 @@ use Rattle.shard_base.specs.declared.memory.OutOfMemory.{OutOfMemory}
 use Rattle.shard_names.specs.Tablets.{AreTablets}
 use Rattle.shard_calls.specs.World.{Config}
 use Rattle.shard_core.specs.Kept.{Kept}
-use Rattle.shard_calls.specs.Safe.{IsSafe}
-use Rattle.shard_calls.proofs.SafeLemmas.{every_run_is_safe}
+use Rattle.shard_laws.specs.Safe.{IsSafe}
+use Rattle.shard_laws.proofs.SafeLemmas.{every_run_is_safe}
 use Rattle.shard_calls.specs.declared.event.Step.{Step}
 use Rattle.shard_script.specs.declared.script.Script.{Script}
 use Rattle.shard_script.specs.declared.script.ScriptFault.{ScriptFault}

@@ -8,7 +8,7 @@ ghost use Rattle.vtctld_text.specs.Notes.{text_with, AreInPlace};
 ghost use Rattle.shard_top.specs.Texts.{read_fault_text, stop_text, status_of};
 ghost use Rattle.shard_top.specs.Words.{usage_fault};
 ghost use Rattle.shard_top.specs.Program.{Answer, IsAnswerOf, IsAnswerToReading, IsAnswerTo, Answers};
-ghost use Rattle.shard_calls.specs.Safe.{IsSafe};
+ghost use Rattle.shard_laws.specs.Safe.{IsSafe};
 
 use crate::player::Stop;
 use crate::playing::{first_moment, play};

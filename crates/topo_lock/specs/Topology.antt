@@ -78,24 +78,6 @@ answer_take t = taken_by t.term t.holder
 abbrev pub after_take : Topology → Holder → Topology
 after_take t holder = if is_held t then t else record t { term = t.term + 1; holder = Some holder }
 
--- ---- Read
-
--- what one who holds the lock reads
-pub record Reading : Type 0 where
-  pub recorded : Option Record
-  pub intent : Option Intent
-  pub drained : List Alias
-
-abbrev pub answer_read : Topology → ℕ → Result Reading TopoFault
-answer_read t term =
-    if is_held_in t term
-    then Ok (record { recorded = t.recorded; intent = last_intent t; drained = t.drained })
-    else lock_lost t
-
--- reading leaves the topology as it is
-abbrev pub after_read : Topology → ℕ → Topology
-after_read t term = t
-
 -- ---- Intend
 
 -- an intent that stands admits its own alias alone

@@ -1,4 +1,4 @@
-use Rattle.shard_calls.proofs.SafeLemmas.{every_run_is_safe}
+use Rattle.shard_laws.proofs.SafeLemmas.{every_run_is_safe}
 use Rattle.shard_core.proofs.shard.Shard.into_history.Goals as goal
 
 pub returns-clause-safe : goal.returns-clause-safe

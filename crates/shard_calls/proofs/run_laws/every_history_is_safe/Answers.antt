@@ -1,5 +1,0 @@
-use Rattle.shard_calls.proofs.SafeLemmas as safe
-use Rattle.shard_calls.proofs.run_laws.every_history_is_safe.Goals as goal
-
-pub returns : goal.returns
-returns c = safe.every_run_is_safe

@@ -1,0 +1,11 @@
+pub mod LeaderCore
+pub mod AmongLemmas
+pub mod TightLemmas
+pub mod TraceLemmas
+pub mod HeardLemmas
+pub mod GroundLemmas
+pub mod VoteLemmas
+pub mod MovedLemmas
+pub mod LeaderLemmas
+pub mod SiteLemmas
+pub mod SafeLemmas

@@ -1,0 +1,3 @@
+pub mod TightMoves
+pub mod Traces
+pub mod Safe
