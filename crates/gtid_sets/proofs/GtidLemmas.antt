@@ -39,10 +39,3 @@ below_differs a b low =
       | true ↦ λ e. let tied : gtid_cmp a b ≡ Equal = subst (λ (c : Gtid). gtid_cmp a c ≡ Equal) (gtid_eq_is a b e) (tied_itself gtid_total a) in cc
       | false ↦ λ e. refl
     ] refl
-
-pub above_differs : (a b : Gtid) → gtid_cmp b a ≡ Less → gtid_eq a b ≡ false
-above_differs a b low =
-    elim (gtid_eq a b) as (λ r. gtid_eq a b ≡ r → r ≡ false) [
-      | true ↦ λ e. let tied : gtid_cmp b a ≡ Equal = subst (λ (c : Gtid). gtid_cmp c a ≡ Equal) (gtid_eq_is a b e) (tied_itself gtid_total a) in cc
-      | false ↦ λ e. refl
-    ] refl

@@ -12,8 +12,7 @@ use Rattle.gtid_sets.specs.Position.{Position, nothing, with_gtid, of_gtids, has
 use Rattle.gtid_sets.specs.StoredPosition.{same_position, position_eq}
 use Rattle.gtid_sets.proofs.BoolLemmas.{or_left, or_right}
 use Rattle.gtid_sets.proofs.GtidLemmas.{gtid_eq_itself, gtid_eq_is, gtid_eq-Decides}
-use Rattle.gtid_sets.proofs.SearchLemmas.{put_found, length_put}
-use Rattle.gtid_sets.proofs.RisingLemmas.{member, same_list, member_put, member_of_gtids, member_append, member_filter}
+use Rattle.gtid_sets.proofs.RisingLemmas.{member, same_list, put_found, length_put, member_put, member_of_gtids, member_append, member_filter}
 
 pub position_eq-Decides : (p q : Position) → Decides (position_eq p q) (p ≡ q)
 position_eq-Decides p q =

@@ -1,5 +1,5 @@
 -- Lists in order as sets.
-use Rattle.std.proofs.Common.{◌≡◌, Bool, true, false, ◌&&◌, ◌||◌, cond, T, List, [], ◌∷◌, ◌++◌, refl, ap, sym, subst, ◌∙◌}
+use Rattle.std.proofs.Common.{◌≡◌, Bool, true, false, ◌&&◌, ◌||◌, cond, T, List, [], ◌∷◌, ◌++◌, length, ◌+◌, arith, refl, ap, sym, subst, ◌∙◌}
 use Rattle.std.specs.List.{list_any, filter}
 use Rattle.std.specs.Ordering.{is_lt, match_ordering}
 use Rattle.std.specs.declared.cmp.Ordering.{Ordering}
@@ -7,7 +7,7 @@ use Rattle.std.specs.declared.cmp.Ordering.TheVariants.{Less, Equal, Greater}
 use Rattle.gtid_sets.specs.declared.gtid.Gtid.{Gtid}
 use Rattle.gtid_sets.specs.Gtid.{gtid_cmp, gtid_eq}
 use Rattle.gtid_sets.specs.GtidOrder.{gtid_total}
-use Rattle.gtid_sets.specs.Rising.{rises, put, T_both, T_left, T_right, is_below, is_above}
+use Rattle.gtid_sets.specs.Rising.{rises, put, rises-put, T_both, T_left, T_right, is_below, is_above}
 use Rattle.gtid_sets.specs.Position.{of_gtids}
 use Rattle.gtid_sets.proofs.BoolLemmas.{or_left, or_right}
 use Rattle.gtid_sets.proofs.GtidLemmas.{same_gtid, gtid_eq_itself, gtid_eq_is, below_differs}
@@ -158,17 +158,28 @@ member_filter f g (x ∷ xs) =
     off y e true = rw e refl
     off y e false = refl
 
-under_filter : (f : Gtid → Bool) (x : Gtid) (ys : List Gtid) → Under x ys → Under x (filter f ys)
-under_filter f x ys low = under_from_members x (filter f ys) (λ g m. under_member x g ys low (left (member ys g) (f g) (sym (member_filter f g ys) ∙ m)))
+-- ---- one more
+-- what is there is not put again
+pub put_found : (xs : List Gtid) (g : Gtid) → T (rises xs) → member xs g ≡ true → put g xs ≡ xs
+put_found xs g h there = same_list (put g xs) xs (rises-put g xs h) h (λ q. member_put g q xs ∙ known q)
   where
-    left : (a b : Bool) → (a && b) ≡ true → a ≡ true
-    left true b h = refl
-    left false b h = h
+    known : (q : Gtid) → (gtid_eq q g || member xs q) ≡ member xs q
+    known q = elim (gtid_eq q g) as (λ b. gtid_eq q g ≡ b → (b || member xs q) ≡ member xs q) [
+      | true ↦ λ e. sym (ap (member xs) (gtid_eq_is q g e) ∙ there)
+      | false ↦ λ e. refl
+    ] refl
 
-rises_if_kept : (b : Bool) (x : Gtid) (ys : List Gtid) → Under x ys → T (rises ys) → T (rises (cond b (x ∷ ys) ys))
-rises_if_kept true x ys low h = rises_cons x ys low h
-rises_if_kept false x ys low h = h
-
-pub rises_filter : (f : Gtid → Bool) (xs : List Gtid) → T (rises xs) → T (rises (filter f xs))
-rises_filter f [] h = tt
-rises_filter f (x ∷ xs) h = rises_if_kept (f x) x (filter f xs) (under_filter f x xs (rises_head x xs h)) (rises_filter f xs (rises_tail x xs h))
+-- what is missing makes one more
+pub length_put : (xs : List Gtid) (g : Gtid) → member xs g ≡ false → length (put g xs) ≡ length xs + 1
+length_put [] g none = refl
+length_put (x ∷ xs) g none =
+    elim (gtid_cmp g x) as (λ o. gtid_cmp g x ≡ o → length (match_ordering o (g ∷ x ∷ xs) (x ∷ xs) (x ∷ put g xs)) ≡ length (x ∷ xs) + 1) [
+      | Less ↦ λ e. omega arith
+      | Equal ↦ λ e. let here : gtid_eq g x ≡ true = subst (λ (z : Gtid). gtid_eq g z ≡ true) (same_gtid g x e) (gtid_eq_itself g) in
+          let some : (gtid_eq g x || member xs g) ≡ true = or_left (gtid_eq g x) (member xs g) here in absurd (cc)
+      | Greater ↦ λ e. let more : length (put g xs) ≡ length xs + 1 = length_put xs g (rest (gtid_eq g x) (member xs g) none) in omega arith
+    ] refl
+  where
+    rest : (a b : Bool) → (a || b) ≡ false → b ≡ false
+    rest true b h = absurd (cc)
+    rest false b h = h

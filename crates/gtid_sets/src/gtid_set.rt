@@ -1,18 +1,17 @@
-ghost use Rattle.std.specs.Prelude.{◌≡◌, ◌↔◌, IsTrue, IfOk, OnOk, OnErr, T};
+ghost use Rattle.std.specs.Prelude.{◌≡◌, ◌↔◌, IsTrue, IfOk, OnOk, OnErr};
 ghost use Rattle.gtid_sets.specs.Position.{nothing, with_gtid, has, count, union, minus, covers};
-ghost use Rattle.gtid_sets.specs.Rising.{rises};
+ghost use Rattle.gtid_sets.specs.Intervals.{Ordered, holds, within};
 
-use crate::Gtid;
+use crate::{Gtid, Interval, intervals};
 use shard_base::OutOfMemory;
 use std::alloc::{AllocError, Global};
-use std::cmp::Ordering;
 use std::marker::Model;
 
 /// A set of transactions, as the position of a log is. It keeps the allocator that it was made with.
+/// It costs what its intervals cost, however many transactions they have.
 #[derive(Drop)]
 pub struct GtidSet {
-    gtids: Vec<Gtid>,
-    ghost in_order: { T (rises gtids.items) },
+    intervals: Vec<Interval>,
 }
 
 impl Model for GtidSet {
@@ -23,7 +22,11 @@ impl Model for GtidSet {
 
     ghost coded = { coded_position };
 
-    ghost view = { λ a. record { gtids = a.gtids.items; in_order = a.in_order } };
+    ghost use Rattle.gtid_sets.specs.Intervals.{Ordered, position_of};
+
+    ghost view = { λ a. position_of a.intervals.items };
+
+    ghost invariant = { λ a. Ordered a.intervals.items };
 }
 
 impl PartialEq for GtidSet {
@@ -34,7 +37,7 @@ impl PartialEq for GtidSet {
     ghost laws = { position_per };
 
     fn eq(&self, other: &Self) -> bool {
-        self.gtids == other.gtids
+        self.intervals == other.intervals
     }
 }
 
@@ -44,8 +47,8 @@ impl Clone for GtidSet {
     ghost is_clone = { λ a b. b ≡ a };
 
     fn clone(&self) -> Result<GtidSet, AllocError> {
-        let gtids = Vec::from_slice(*self.gtids.allocator(), self.gtids.as_slice())?;
-        Ok(GtidSet { gtids })
+        let intervals = Vec::from_slice(*self.intervals.allocator(), self.intervals.as_slice())?;
+        Ok(GtidSet { intervals })
     }
 }
 
@@ -55,15 +58,23 @@ impl GtidSet {
         ensures { result ≡ nothing }
     {
         GtidSet {
-            gtids: Vec::new(alloc),
+            intervals: Vec::new(alloc),
         }
+    }
+
+    /// The transactions of an interval.
+    pub fn of_interval(alloc: Global, interval: &Interval) -> Result<GtidSet, OutOfMemory>
+        ensures { IfOk result (λ set. (gtid : Gtid) → has set gtid ≡ holds interval.now gtid) }
+    {
+        let intervals = intervals::of_one(alloc, interval)?;
+        Ok(GtidSet { intervals })
     }
 
     /// How many transactions are in the set.
     pub fn count(&self) -> u128
         ensures { result ≡ count self.now }
     {
-        self.gtids.len() as u128
+        intervals::count(self.intervals.as_slice())
     }
 
     /// The same set once more.
@@ -73,18 +84,19 @@ impl GtidSet {
         Ok(self.clone()?)
     }
 
-    /// The transactions in order.
-    pub(crate) fn as_slice(&self) -> &[Gtid]
-        ensures { result.now ≡ self.now.gtids }
+    /// The intervals that the set keeps: in order, none empty, none touching another. It takes no memory.
+    pub fn intervals(&self) -> &Vec<Interval>
+        ensures in_order { Ordered result.now.items }
+        ensures members { (gtid : Gtid) → has self.now gtid ≡ within result.now.items gtid }
     {
-        self.gtids.as_slice()
+        &self.intervals
     }
 
     /// Whether a transaction is in the set.
     pub fn contains(&self, gtid: Gtid) -> bool
         ensures { result ≡ has self.now gtid }
     {
-        self.gtids.as_slice().binary_search(&gtid).is_ok()
+        intervals::has(self.intervals.as_slice(), &gtid)
     }
 
     /// Puts a transaction into the set. Want of memory leaves the set as it was.
@@ -92,13 +104,7 @@ impl GtidSet {
         ensures ok { OnOk result (self.new ≡ with_gtid self.old gtid) }
         ensures err { OnErr result (self.new ≡ self.old) }
     {
-        match self.gtids.as_slice().binary_search(&gtid) {
-            Ok(_) => Ok(()),
-            Err(place) => {
-                self.gtids.insert(place, gtid)?;
-                Ok(())
-            }
-        }
+        intervals::put(&mut self.intervals, &gtid)
     }
 }
 
@@ -106,22 +112,7 @@ impl GtidSet {
 pub fn covers(a: &GtidSet, b: &GtidSet) -> bool
     ensures { result ≡ covers a.now b.now }
 {
-    let mut left = a.gtids.as_slice();
-    let mut right = b.gtids.as_slice();
-    while let Some((wanted, later)) = right.split_first() {
-        let Some((held, rest)) = left.split_first() else {
-            return false;
-        };
-        match held.cmp(wanted) {
-            Ordering::Less => left = rest,
-            Ordering::Equal => {
-                left = rest;
-                right = later;
-            }
-            Ordering::Greater => return false,
-        }
-    }
-    true
+    intervals::covers(a.intervals.as_slice(), b.intervals.as_slice())
 }
 
 /// Whether the two sets have the same transactions.
@@ -135,57 +126,14 @@ pub fn equal(a: &GtidSet, b: &GtidSet) -> bool
 pub fn union(alloc: Global, a: &GtidSet, b: &GtidSet) -> Result<GtidSet, OutOfMemory>
     ensures { IfOk result (λ set. set ≡ union a.now b.now) }
 {
-    let mut gtids = Vec::new(alloc);
-    let mut left = a.gtids.as_slice();
-    let mut right = b.gtids.as_slice();
-    while let (Some((x, more_left)), Some((y, more_right))) = (
-        left.split_first(),
-        right.split_first(),
-    ) {
-        match x.cmp(y) {
-            Ordering::Less => {
-                gtids.push(*x)?;
-                left = more_left;
-            }
-            Ordering::Equal => {
-                gtids.push(*x)?;
-                left = more_left;
-                right = more_right;
-            }
-            Ordering::Greater => {
-                gtids.push(*y)?;
-                right = more_right;
-            }
-        }
-    }
-    gtids.extend_from_slice(left)?;
-    gtids.extend_from_slice(right)?;
-    Ok(GtidSet { gtids })
+    let intervals = intervals::union(alloc, a.intervals.as_slice(), b.intervals.as_slice())?;
+    Ok(GtidSet { intervals })
 }
 
 /// The transactions of the first set that the second has not.
 pub fn minus(alloc: Global, a: &GtidSet, b: &GtidSet) -> Result<GtidSet, OutOfMemory>
     ensures { IfOk result (λ set. set ≡ minus a.now b.now) }
 {
-    let mut gtids = Vec::new(alloc);
-    let mut left = a.gtids.as_slice();
-    let mut right = b.gtids.as_slice();
-    while let (Some((x, more_left)), Some((y, more_right))) = (
-        left.split_first(),
-        right.split_first(),
-    ) {
-        match x.cmp(y) {
-            Ordering::Less => {
-                gtids.push(*x)?;
-                left = more_left;
-            }
-            Ordering::Equal => {
-                left = more_left; // in both
-                right = more_right;
-            }
-            Ordering::Greater => right = more_right,
-        }
-    }
-    gtids.extend_from_slice(left)?;
-    Ok(GtidSet { gtids })
+    let intervals = intervals::minus(alloc, a.intervals.as_slice(), b.intervals.as_slice())?;
+    Ok(GtidSet { intervals })
 }

@@ -1,5 +1,6 @@
 //! What positions promise as finite sets. The functions do nothing: each one's contract is a law.
 
+ghost use Rattle.gtid_sets.specs.Intervals.{OneListEach};
 ghost use Rattle.gtid_sets.specs.PositionLaws.{NothingHasNone, WithGtidHas, OfGtidsHas, UnionHas, MinusHas, TestIsEquality, SameMembersAreOne, CountWithGtid, CoversIsInclusion, CoversIsAnOrder, MinusOfCovered, GreatestIsThere, NoneIsGreater};
 
 /// The empty set has no member.
@@ -65,4 +66,9 @@ pub fn greatest_is_there()
 /// No member of a server has a number above the greatest.
 pub fn none_is_greater()
     ensures { NoneIsGreater }
+{}
+
+/// Each set has one list of intervals in order.
+pub fn one_list_each()
+    ensures { OneListEach }
 {}

@@ -4,6 +4,8 @@
 mod entry;
 mod gtid;
 mod gtid_set;
+mod interval;
+mod intervals;
 pub mod laws;
 mod set_text;
 #[cfg(test)]
@@ -12,4 +14,5 @@ mod tests;
 pub use entry::{Entry, Kind};
 pub use gtid::Gtid;
 pub use gtid_set::{GtidSet, covers, equal, minus, union};
+pub use interval::Interval;
 pub use set_text::{write_position, write_set};

@@ -1,10 +1,11 @@
-ghost use Rattle.std.specs.Prelude.{◌≡◌, ◌∷◌, ◌++◌, OnOk, OnErr};
+ghost use Rattle.std.specs.Prelude.{◌≡◌, ◌∷◌, ◌++◌, None, OnOk, OnErr};
 ghost use Rattle.shard_base.specs.Lists.{IsFront};
 ghost use Rattle.gtid_sets.specs.Gtid.{gtid_text};
-ghost use Rattle.gtid_sets.specs.SetText.{set_text, position_text, gtids_text};
-ghost use Rattle.gtid_sets.specs.SetWriting.{follows, step_text};
+ghost use Rattle.gtid_sets.specs.Intervals.{start};
+ghost use Rattle.gtid_sets.specs.SetText.{set_text, position_text};
+ghost use Rattle.gtid_sets.specs.SetWriting.{first_text, last_text, intervals_text};
 
-use crate::{Gtid, GtidSet};
+use crate::{Gtid, GtidSet, Interval};
 use itoa::Buffer;
 use shard_base::{OutOfMemory, append_pieces};
 use uuid::Uuid;
@@ -15,7 +16,7 @@ pub fn write_set(set: &GtidSet, into: &mut Vec<u8>) -> Result<(), OutOfMemory>
     ensures err { OnErr result (into.new.items ≡ into.old.items) }
 {
     let before = into.len();
-    if write_gtids(set.as_slice(), into).is_err() {
+    if write_intervals(set.intervals().as_slice(), into).is_err() {
         into.truncate(before);
         return Err(OutOfMemory);
     }
@@ -36,41 +37,43 @@ pub fn write_position(set: &GtidSet, into: &mut Vec<u8>) -> Result<(), OutOfMemo
     Ok(())
 }
 
-/// Appends the text of transactions in order. After want of memory a front of it may stand.
-fn write_gtids(gtids: &[Gtid], into: &mut Vec<u8>) -> Result<(), OutOfMemory>
-    ensures ok { OnOk result (into.new.items ≡ into.old.items ++ gtids_text gtids.now) }
+/// Appends the text of intervals in order. After want of memory a front of it may stand.
+fn write_intervals(intervals: &[Interval], into: &mut Vec<u8>) -> Result<(), OutOfMemory>
+    ensures ok { OnOk result (into.new.items ≡ into.old.items ++ intervals_text None intervals.now) }
     ensures err { OnErr result (IsFront into.old.items into.new.items) }
 {
     let mut previous = None;
-    let mut left = gtids;
-    while let Some((gtid, rest)) = left.split_first() {
-        write_step(previous, gtid, rest.first().copied(), into)?;
-        previous = Some(*gtid);
-        left = rest;
+    for interval in intervals {
+        write_interval(previous, interval, into)?;
+        previous = Some(interval.server);
     }
     Ok(())
 }
 
-/// Appends what a transaction adds, by the one before it and the one behind it.
-fn write_step(
-    previous: Option<Gtid>,
-    gtid: &Gtid,
-    next: Option<Gtid>,
+/// Appends an interval, behind those of a server. After want of memory a front of it may stand.
+fn write_interval(
+    before: Option<Uuid>,
+    interval: &Interval,
     into: &mut Vec<u8>,
 ) -> Result<(), OutOfMemory>
-    ensures ok { OnOk result (into.new.items ≡ into.old.items ++ step_text previous gtid.now next) }
+    ensures ok { OnOk result (into.new.items ≡ into.old.items ++ first_text before (start interval.now) ++ last_text interval.now) }
+    ensures err { OnErr result (IsFront into.old.items into.new.items) }
+{
+    write_first(before, &interval.start(), into)?;
+    write_last(interval, into)
+}
+
+/// Appends the first transaction of an interval: with its server, unless that stands before it.
+fn write_first(before: Option<Uuid>, first: &Gtid, into: &mut Vec<u8>) -> Result<(), OutOfMemory>
+    ensures ok { OnOk result (into.new.items ≡ into.old.items ++ first_text before first.now) }
     ensures err { OnErr result (into.new.items ≡ into.old.items) }
 {
     let mut digits = Buffer::new();
-    let number = digits.format(gtid.number).as_bytes();
-    match previous {
-        None => gtid.write(into),
-        Some(before) if follows(&before, gtid) => match next {
-            Some(behind) if follows(gtid, &behind) => Ok(()),
-            _ => append_pieces(into, &[b"-", number]),
-        },
-        Some(before) if before.server == gtid.server => append_pieces(into, &[b":", number]),
-        Some(_) => write_next_server(gtid, into),
+    let number = digits.format(first.number).as_bytes();
+    match before {
+        None => first.write(into),
+        Some(server) if server == first.server => append_pieces(into, &[b":", number]),
+        Some(_) => write_next_server(first, into),
     }
 }
 
@@ -87,9 +90,15 @@ fn write_next_server(gtid: &Gtid, into: &mut Vec<u8>) -> Result<(), OutOfMemory>
     append_pieces(into, &[b",", server.as_bytes(), b":", number.as_bytes()])
 }
 
-/// Whether the second is the next transaction of the first one's server.
-fn follows(a: &Gtid, b: &Gtid) -> bool
-    ensures { result ≡ follows a.now b.now }
+/// Appends a dash and the last number of an interval, where that is not its first.
+fn write_last(interval: &Interval, into: &mut Vec<u8>) -> Result<(), OutOfMemory>
+    ensures ok { OnOk result (into.new.items ≡ into.old.items ++ last_text interval.now) }
+    ensures err { OnErr result (into.new.items ≡ into.old.items) }
 {
-    a.server == b.server && b.number.checked_sub(1) == Some(a.number)
+    if interval.first == interval.last {
+        return Ok(());
+    }
+    let mut digits = Buffer::new();
+    let number = digits.format(interval.last);
+    append_pieces(into, &[b"-", number.as_bytes()])
 }

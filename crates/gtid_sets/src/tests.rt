@@ -1,4 +1,4 @@
-use crate::{Gtid, GtidSet, covers, equal, minus, union, write_position, write_set};
+use crate::{Gtid, GtidSet, Interval, covers, equal, minus, union, write_position, write_set};
 use shard_base::OutOfMemory;
 use std::alloc::Global;
 use std::test::Fail;
@@ -126,6 +126,50 @@ fn joins_what_touches(rt: HostRuntime) -> Result<(), Fail> {
         text.as_slice(),
         b"00000000-0000-4000-8000-000000000100:1-7".as_slice()
     );
+    Ok(())
+}
+
+/// All transactions of the first server.
+fn all_of(alloc: Global) -> Result<GtidSet, OutOfMemory> {
+    GtidSet::of_interval(
+        alloc,
+        &Interval {
+            server: server(0),
+            first: 1,
+            last: 9223372036854775806,
+        },
+    )
+}
+
+#[test]
+fn cuts_one_out_of_all(rt: HostRuntime) -> Result<(), Fail> {
+    let alloc = rt.alloc();
+    let all = all_of(alloc)?;
+    let one = set_of(alloc, &[(0, 2)])?;
+    let rest = minus(alloc, &all, &one)?;
+    assert_eq!(rt; rest.intervals().len(), 2);
+    let text = text_of(alloc, &rest)?;
+    let want = b"00000000-0000-4000-8000-000000000100:1:3-9223372036854775806";
+    assert_eq!(rt; text.as_slice(), want.as_slice());
+    Ok(())
+}
+
+#[test]
+fn counts_without_a_walk(rt: HostRuntime) -> Result<(), Fail> {
+    let alloc = rt.alloc();
+    let all = all_of(alloc)?;
+    assert_eq!(rt; all.count(), 9223372036854775806);
+    Ok(())
+}
+
+#[test]
+fn joins_both_neighbours(rt: HostRuntime) -> Result<(), Fail> {
+    let alloc = rt.alloc();
+    let set = set_of(alloc, &[(0, 1), (0, 3), (0, 6), (1, 2), (0, 2)])?;
+    assert_eq!(rt; set.intervals().len(), 3);
+    let text = text_of(alloc, &set)?;
+    let want = b"00000000-0000-4000-8000-000000000100:1-3:6,00000000-0000-4000-8000-000000000101:2";
+    assert_eq!(rt; text.as_slice(), want.as_slice());
     Ok(())
 }
 

@@ -1,0 +1,250 @@
+//! Lists of intervals in order, none touching another.
+
+ghost use Rattle.std.specs.Prelude.{◌≡◌, ◌↔◌, ◌||◌, ◌&&◌, not, true, false, ◌<◌, ◌≤◌, ◌^◌, length, get_or, ◌++◌, option_to_list, IsTrue, IfOk, OnOk, OnErr};
+ghost use Rattle.std.specs.List.{prefix_len};
+ghost use Rattle.gtid_sets.specs.Intervals.{Ordered, StartsBy, Behind, HasWith, holds, within, total, start, ends_below, touches};
+
+use crate::{Gtid, Interval};
+use shard_base::OutOfMemory;
+use std::alloc::Global;
+
+/// The list of an interval, or of none where it is empty.
+pub(crate) fn of_one(alloc: Global, interval: &Interval) -> Result<Vec<Interval>, OutOfMemory>
+    ensures in_order { IfOk result (λ xs. Ordered xs.items) }
+    ensures members { IfOk result (λ xs. (g : Gtid) → within xs.items g ≡ holds interval.now g) }
+{
+    let mut intervals = Vec::new(alloc);
+    if interval.first <= interval.last {
+        intervals.push(*interval)?;
+    }
+    Ok(intervals)
+}
+
+/// How many transactions they have.
+pub(crate) fn count(intervals: &[Interval]) -> u128
+    requires { length intervals.now < 2 ^ 64 }
+    ensures { result ≡ total intervals.now }
+{
+    let mut total = 0;
+    for interval in intervals {
+        total += interval.count();
+    }
+    total
+}
+
+/// How many of them end below a transaction and do not touch it.
+pub(crate) fn place_of(intervals: &[Interval], gtid: &Gtid) -> usize
+    requires { Ordered intervals.now }
+    ensures { result ≡ prefix_len (ends_below gtid.now) intervals.now }
+{
+    intervals.partition_point(|interval| interval.ends_below(gtid))
+}
+
+/// Whether a transaction is in one of them.
+pub(crate) fn has(intervals: &[Interval], gtid: &Gtid) -> bool
+    requires { Ordered intervals.now }
+    ensures { result ≡ within intervals.now gtid.now }
+{
+    let place = place_of(intervals, gtid);
+    match intervals.get(place) {
+        Some(interval) => interval.holds(gtid),
+        None => false,
+    }
+}
+
+/// Puts a transaction in. Want of memory leaves the list as it was.
+pub(crate) fn put(intervals: &mut Vec<Interval>, gtid: &Gtid) -> Result<(), OutOfMemory>
+    requires { Ordered intervals.old.items }
+    ensures in_order { Ordered intervals.new.items }
+    ensures members { OnOk result (HasWith gtid.now intervals.old.items intervals.new.items) }
+    ensures err { OnErr result (intervals.new.items ≡ intervals.old.items) }
+{
+    let place = place_of(intervals.as_slice(), gtid);
+    match intervals.get(place).copied() {
+        Some(held) if held.touches(gtid) => {
+            widen(intervals, place, &held, gtid);
+            Ok(())
+        }
+        Some(_) => insert_alone(intervals, place, gtid),
+        None => insert_alone(intervals, place, gtid),
+    }
+}
+
+/// Puts a transaction in that touches none.
+fn insert_alone(intervals: &mut Vec<Interval>, place: usize, gtid: &Gtid) -> Result<(), OutOfMemory>
+    requires in_order { Ordered intervals.old.items }
+    requires place { prefix_len (ends_below gtid.now) intervals.old.items ≡ place }
+    requires apart { (d : Interval) → place < length intervals.old.items → touches gtid.now (get_or intervals.old.items place d) ≡ false }
+    ensures in_order { Ordered intervals.new.items }
+    ensures members { OnOk result (HasWith gtid.now intervals.old.items intervals.new.items) }
+    ensures err { OnErr result (intervals.new.items ≡ intervals.old.items) }
+{
+    let alone = Interval {
+        server: gtid.server,
+        first: gtid.number,
+        last: gtid.number,
+    };
+    intervals.insert(place, alone)?;
+    Ok(())
+}
+
+/// Widens the interval at a place by a transaction that touches it, and joins the next where that one touches it too.
+fn widen(intervals: &mut Vec<Interval>, place: usize, held: &Interval, gtid: &Gtid)
+    requires in_order { Ordered intervals.old.items }
+    requires place { prefix_len (ends_below gtid.now) intervals.old.items ≡ place }
+    requires within { place < length intervals.old.items }
+    requires there { get_or intervals.old.items place held.now ≡ held.now }
+    requires touched { touches gtid.now held.now ≡ true }
+    ensures in_order { Ordered intervals.new.items }
+    ensures members { HasWith gtid.now intervals.old.items intervals.new.items }
+{
+    let wide = held.widened(gtid);
+    match intervals.get(place + 1).copied() {
+        Some(next) if next.touches(gtid) => {
+            intervals.remove(place + 1);
+            intervals[place] = wide.joined(&next);
+        }
+        Some(_) => intervals[place] = wide,
+        None => intervals[place] = wide,
+    }
+}
+
+/// Puts an interval at the end, joined to the last where they touch.
+fn append(intervals: &mut Vec<Interval>, next: &Interval) -> Result<(), OutOfMemory>
+    requires in_order { Ordered intervals.old.items }
+    requires some { next.now.first ≤ next.now.last }
+    requires behind { StartsBy (start next.now) intervals.old.items }
+    ensures in_order { OnOk result (Ordered intervals.new.items) }
+    ensures members { OnOk result ((g : Gtid) → within intervals.new.items g ≡ (within intervals.old.items g || holds next.now g)) }
+    ensures behind { OnOk result (StartsBy (start next.now) intervals.new.items) }
+{
+    match intervals.last().copied() {
+        Some(last) if last.touches(&next.start()) => {
+            let place = intervals.len() - 1;
+            intervals[place] = last.joined(next);
+            Ok(())
+        }
+        _ => {
+            intervals.push(*next)?;
+            Ok(())
+        }
+    }
+}
+
+/// What is in either list.
+pub(crate) fn union(
+    alloc: Global,
+    a: &[Interval],
+    b: &[Interval],
+) -> Result<Vec<Interval>, OutOfMemory>
+    requires a { Ordered a.now }
+    requires b { Ordered b.now }
+    ensures in_order { IfOk result (λ xs. Ordered xs.items) }
+    ensures members { IfOk result (λ xs. (g : Gtid) → within xs.items g ≡ (within a.now g || within b.now g)) }
+{
+    let mut all = Vec::new(alloc);
+    let mut left = a;
+    let mut right = b;
+    while let Some((x, more_left)) = left.split_first() {
+        let Some((y, more_right)) = right.split_first() else {
+            append_all(&mut all, left)?;
+            return Ok(all);
+        };
+        if y.starts_before(x) {
+            append(&mut all, y)?;
+            right = more_right;
+        } else {
+            append(&mut all, x)?;
+            left = more_left;
+        }
+    }
+    append_all(&mut all, right)?;
+    Ok(all)
+}
+
+/// Puts intervals at the end, each joined to the last where they touch.
+fn append_all(intervals: &mut Vec<Interval>, more: &[Interval]) -> Result<(), OutOfMemory>
+    requires in_order { Ordered intervals.old.items }
+    requires more { Ordered more.now }
+    requires behind { Behind intervals.old.items more.now }
+    ensures in_order { OnOk result (Ordered intervals.new.items) }
+    ensures members { OnOk result ((g : Gtid) → within intervals.new.items g ≡ (within intervals.old.items g || within more.now g)) }
+{
+    let mut left = more;
+    while let Some((next, rest)) = left.split_first() {
+        append(intervals, next)?;
+        left = rest;
+    }
+    Ok(())
+}
+
+/// What is in the first list and not in the second.
+pub(crate) fn minus(
+    alloc: Global,
+    a: &[Interval],
+    b: &[Interval],
+) -> Result<Vec<Interval>, OutOfMemory>
+    requires a { Ordered a.now }
+    requires b { Ordered b.now }
+    ensures in_order { IfOk result (λ xs. Ordered xs.items) }
+    ensures members { IfOk result (λ xs. (g : Gtid) → within xs.items g ≡ (within a.now g && not (within b.now g))) }
+{
+    let mut kept = Vec::new(alloc);
+    let Some((first, rest)) = a.split_first() else {
+        return Ok(kept);
+    };
+    let mut x = *first;
+    let mut left = rest;
+    let mut right = b;
+    while let Some((y, later)) = right.split_first() {
+        push_some(&mut kept, x.below(y))?;
+        match x.above(y) {
+            Some(part) => {
+                x = part;
+                right = later;
+            }
+            None => {
+                let Some((next, others)) = left.split_first() else {
+                    return Ok(kept);
+                };
+                x = *next;
+                left = others;
+            }
+        }
+    }
+    kept.push(x)?;
+    kept.extend_from_slice(left)?;
+    Ok(kept)
+}
+
+fn push_some(intervals: &mut Vec<Interval>, part: Option<Interval>) -> Result<(), OutOfMemory>
+    ensures { OnOk result (intervals.new.items ≡ intervals.old.items ++ option_to_list part) }
+{
+    if let Some(interval) = part {
+        intervals.push(interval)?;
+    }
+    Ok(())
+}
+
+/// Whether the first list has all of the second.
+pub(crate) fn covers(a: &[Interval], b: &[Interval]) -> bool
+    requires a { Ordered a.now }
+    requires b { Ordered b.now }
+    ensures { IsTrue result ↔ ((g : Gtid) → within b.now g ≡ true → within a.now g ≡ true) }
+{
+    let mut left = a;
+    let mut right = b;
+    while let Some((wanted, later)) = right.split_first() {
+        let Some((held, rest)) = left.split_first() else {
+            return false;
+        };
+        if held.contains(wanted) {
+            right = later;
+        } else if held.stands_before(wanted) {
+            left = rest;
+        } else {
+            return false;
+        }
+    }
+    true
+}
