@@ -5,6 +5,7 @@ ghost use Rattle.durability.specs.Policies.{rules_of, policy_name, is_other, is_
 ghost use Rattle.durability.specs.Lawful.{five_lawful};
 
 use shard_names::{PromotionRule, Tablet, TabletType};
+use thiserror::Error;
 
 /// A durability policy: how many tablets must acknowledge a primary's write, which of them count, and how fit each tablet
 /// is to be promoted. No tablet is its own acker, and each answer depends on the policy and the tablets given alone.
@@ -42,7 +43,8 @@ pub enum Durability {
 }
 
 /// No policy has this name.
-#[derive(Clone, Copy, Debug, PartialEq, Eq)]
+#[derive(Clone, Copy, Debug, PartialEq, Eq, Error)]
+#[error("no durability policy has this name")]
 pub struct UnknownPolicy;
 
 fn is_other(primary: &Tablet, other: &Tablet) -> bool

@@ -7,9 +7,11 @@ ghost use Rattle.durability.specs.Counting.{is_revoked, is_unrevoked, CountingIs
 
 use crate::Policy;
 use shard_names::{Alias, PromotionRule, Tablet};
+use thiserror::Error;
 
 /// Too few of a tablet's ackers are reached: `have`, where its writes wait for `need`.
-#[derive(Clone, Copy, Debug, PartialEq, Eq)]
+#[derive(Clone, Copy, Debug, PartialEq, Eq, Error)]
+#[error("{have} of {need} ackers are reached")]
 pub struct Short {
     pub have: u32,
     pub need: u32,

@@ -5,6 +5,7 @@ ghost use Rattle.std.specs.Char.{is_ascii_digit};
 ghost use Rattle.shard_names.specs.Alias.{number_of, alias_reading, alias_text, last_dash, uid_of, cell_fault, is_cell_byte, digit, ten_digits};
 
 use shard_base::{OutOfMemory, Text, append_pieces};
+use thiserror::Error;
 
 /// The name of a cell: 1 to 32 letters, digits, `_`, `.` or `-` of ASCII.
 pub type Cell = Text<32>;
@@ -17,14 +18,17 @@ pub struct Alias {
 }
 
 /// Why a text is no alias.
-#[derive(Clone, Copy, Debug, PartialEq, Eq)]
+#[derive(Clone, Copy, Debug, PartialEq, Eq, Error)]
 pub enum NameFault {
     /// There is no dash.
+    #[error("an alias has a dash")]
     NoDash,
     /// What stands behind the last dash is no number of 32 bits in 1 to 10 digits. `at` is the place of its first byte.
+    #[error("no number of a tablet at byte {at}")]
     BadUid { at: u64 },
     /// The number is good and the cell is not. `at` is the place of the first byte that no cell has, or 0 for a cell that is
     /// empty or too long and has no such byte.
+    #[error("no cell at byte {at}")]
     BadCell { at: u64 },
 }
 
