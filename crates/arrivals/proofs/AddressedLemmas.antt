@@ -89,6 +89,7 @@ by_stand d r stands.Down c is e = absurd (cc)
 by_stand d r stands.Stopped c is e = absurd (cc)
 by_stand d r (stands.Primary t) c is e = absurd (cc)
 by_stand d r (stands.Demoted t by) c is e = absurd (cc)
+by_stand d r (stands.Feeder t) c is e = absurd (cc)
 by_stand d r (stands.Replica s t n) c is e =
     by_test (tablets_of d.managers) s r t n (may_feed (seen d) s r t n) (needed (state_at d.managers s) (state_at d.managers r)) c
     (λ may. source_declared d.managers s t

@@ -1,7 +1,7 @@
 -- What a replica needs of the entries that are left of its source's log.
 use Rattle.std.proofs.Common.{◌≡◌, ℕ, zero, suc, ◌+◌, ◌-◌, ◌<◌, ◌≤◌, Bool, true, false, not, ◌||◌, List, [], ◌∷◌, drop, length, get_or, Option, Some, None, ap, sym, ◌∙◌, cond, arith}
 use Rattle.gtid_sets.specs.declared.entry.Entry.{Entry}
-use Rattle.shard_calls.specs.Logs.{holds, newest_row, place_of_row}
+use Rattle.gtid_sets.specs.Logs.{holds}
 use Rattle.shard_calls.specs.Messages.{has_come_to, needed_from}
 use Rattle.arrivals.specs.Feeding.{needed_of}
 use Rattle.arrivals.proofs.WalkLemmas.{all_dropped}
@@ -11,11 +11,11 @@ first_left [] k x less e = absurd (omega arith)
 first_left {A} (y ∷ xs) zero x less e = ap (λ (z : A). z ∷ xs) (sym e)
 first_left (y ∷ xs) (suc k) x less e = first_left xs k x (omega (arith, less)) e
 
-pub from_start : (source held : List Entry) (n start i : ℕ) → start ≡ n - 1 → i ≡ n
-    → needed_of source held n ≡ needed_from i (place_of_row source (newest_row source)) held (drop start source)
-from_start source held n start i here e =
-    ap (λ (j : ℕ). needed_from j (place_of_row source (newest_row source)) held (drop (n - 1) source)) (sym e)
-    ∙ ap (λ (k : ℕ). needed_from i (place_of_row source (newest_row source)) held (drop k source)) (sym here)
+pub from_start : (source : List Entry) (row : Option ℕ) (held : List Entry) (n start i : ℕ) → start ≡ n - 1 → i ≡ n
+    → needed_of source row held n ≡ needed_from i row held (drop start source)
+from_start source row held n start i here e =
+    ap (λ (j : ℕ). needed_from j row held (drop (n - 1) source)) (sym e)
+    ∙ ap (λ (k : ℕ). needed_from i row held (drop k source)) (sym here)
 
 -- the first entry that is left is needed
 pub needed_here : (source held : List Entry) (row : Option ℕ) (i at : ℕ) (e : Entry) → at < length source → e ≡ get_or source at e

@@ -4,13 +4,12 @@ use Rattle.shard_base.specs.Options.{◌>>=◌}
 use Rattle.shard_names.specs.declared.alias.Alias.{Alias}
 use Rattle.gtid_sets.specs.declared.entry.Entry.{Entry}
 use Rattle.shard_calls.specs.declared.post.Content.{Content}
-use Rattle.shard_calls.specs.Logs.{newest_row, place_of_row}
 use Rattle.shard_calls.specs.Messages.{Indexed, needed_from, feed_of}
 
--- the first entry from the n-th on that who has a log needs of another log
-abbrev pub needed_of : List Entry → List Entry → ℕ → Option Indexed
-needed_of source held n = needed_from n (place_of_row source (newest_row source)) held (drop (n - 1) source)
+-- the first entry from the n-th on that who has a log needs of another log, of which every entry from a row on is sent
+abbrev pub needed_of : List Entry → Option ℕ → List Entry → ℕ → Option Indexed
+needed_of source row held n = needed_from n row held (drop (n - 1) source)
 
 -- as a source sends it in a term
-abbrev pub fed_of : List Entry → List Entry → Alias → Alias → ℕ → ℕ → Option Content
-fed_of source held from to term n = needed_of source held n >>= (λ x. Some (feed_of from to term n x))
+abbrev pub fed_of : List Entry → Option ℕ → List Entry → Alias → Alias → ℕ → ℕ → Option Content
+fed_of source row held from to term n = needed_of source row held n >>= (λ x. Some (feed_of from to term n x))

@@ -1,12 +1,13 @@
 ghost use Rattle.std.specs.Prelude.{◌≡◌, ◌||◌, not};
-ghost use Rattle.shard_calls.specs.Logs.{holds};
-ghost use Rattle.shard_calls.specs.Messages.{feeds_term, has_come_to, feed_of};
+ghost use Rattle.gtid_sets.specs.Logs.{holds};
+ghost use Rattle.shard_calls.specs.Messages.{feeds_term, sends_all_from, has_come_to, feed_of};
+ghost use Rattle.tablet_manager.specs.Managed.{state_of};
 ghost use Rattle.arrivals.specs.Feeding.{fed_of};
 
 use gtid_sets::{Entry, Gtid};
 use shard_calls::{Content, Stand};
 use shard_names::Alias;
-use tablet_manager::PlainLog;
+use tablet_manager::{Manager, PlainLog};
 
 /// Whether a tablet that stands so sends its log to the replicas of the term.
 pub(crate) fn feeds_term(stand: &Stand, term: u64) -> bool
@@ -18,6 +19,17 @@ pub(crate) fn feeds_term(stand: &Stand, term: u64) -> bool
         Stand::Primary { term: of } => *of == term,
         Stand::Demoted { term: of, .. } => *of == term,
         Stand::Replica { .. } => false,
+        Stand::Feeder { term: of } => *of == term,
+    }
+}
+
+/// The index from which on a source sends every entry: that of its newest row, unless it only feeds.
+pub(crate) fn sends_all_from(source: &Manager) -> Option<u64>
+    ensures { result ≡ sends_all_from (state_of source.now) }
+{
+    match source.stand() {
+        Stand::Feeder { .. } => None,
+        _ => source.log().newest_at(),
     }
 }
 
@@ -37,7 +49,7 @@ fn holds(log: &PlainLog, gtid: Gtid) -> bool
     log.held().contains(gtid)
 }
 
-/// Whether a replica with this log needs the entry: it has it not, or it is the newest row or behind it.
+/// Whether a replica with this log needs the entry: it has it not, or its source sends every entry from that index on.
 fn needs(log: &PlainLog, entry: &Entry, row: Option<u64>, index: u64) -> bool
     ensures { result ≡ (not (holds log.now.entries entry.now.gtid) || has_come_to row index) }
 {
@@ -57,20 +69,21 @@ fn fed(from: &Alias, to: &Alias, term: u64, after: u64, index: u64, entry: &Entr
     }
 }
 
-/// The first entry that a replica which waits for `next` needs of its source, as the source sends it in the term.
+/// The first entry that a replica which waits for `next` needs of its source, as the source sends it in the term. From `row` on the
+/// source sends every entry, and of the others those that the replica has not.
 ///
 /// It costs a few steps for each entry from `next` on before it, and those to look it up in the set of what the replica has.
 pub(crate) fn feed(
     source: &PlainLog,
+    row: Option<u64>,
     replica: &PlainLog,
     from: &Alias,
     to: &Alias,
     term: u64,
     next: u64,
 ) -> Option<Content>
-    ensures { result ≡ fed_of source.now.entries replica.now.entries from.now to.now term next }
+    ensures { result ≡ fed_of source.now.entries row replica.now.entries from.now to.now term next }
 {
-    let row = source.newest_at();
     let entries = source.entries();
     let start = next.saturating_sub(1) as usize;
     for at in start..entries.len() {

@@ -1,7 +1,7 @@
 ghost use Rattle.std.specs.Prelude.{◌≡◌, ◌+◌, ◌&&◌, ◌==◌, not, nat_le, is_none};
 ghost use Rattle.std.specs.List.{list_all};
 ghost use Rattle.shard_calls.specs.World.{numbered};
-ghost use Rattle.shard_calls.specs.Messages.{passes, may_arrive, answers_to, is_unanswered, is_call_lost, may_time_out, timeout_of, is_overdue, why_unanswered, why_by, why_given_up};
+ghost use Rattle.shard_calls.specs.Messages.{passes, may_arrive, answers_to, is_unanswered, is_call_lost, may_time_out, is_overdue, why_unanswered, why_by, why_given_up};
 ghost use Rattle.shard_calls.specs.declared.why.Why.TheVariants as whys;
 ghost use Rattle.shard_state.specs.State.{seen, data_of, AreOfGroup};
 ghost use Rattle.arrivals.specs.GivingUp.{why_in};
@@ -10,10 +10,7 @@ use crate::links::{is_cut, link_to};
 use crate::receivers::may_arrive;
 use shard_calls::{Call, Command, CommandState, Content, Message, Why};
 use shard_names::Alias;
-use shard_state::{Fields, is_down, open_command};
-
-/// How long a command waits for an answer, in milliseconds.
-const TIMEOUT: u64 = 15000;
+use shard_state::{Fields, is_down, open_command, timeout_of};
 
 /// Whether the message of this number has not come, and may not.
 fn is_out_at(fields: &Fields, number: u64) -> bool
@@ -79,16 +76,10 @@ fn may_time_out(call: &Call) -> bool
         Call::Demote => true,
         Call::Promote { .. } => true,
         Call::SetSource { .. } => true,
+        Call::Feed => true,
+        Call::WaitFor { .. } => false,
         Call::WaitTold { .. } => false,
     }
-}
-
-/// The milliseconds that a command waits for an answer.
-fn timeout_of(command: &Command) -> u64
-    ensures { result ≡ timeout_of command.now }
-{
-    let _ = command;
-    TIMEOUT
 }
 
 /// Whether so many milliseconds have gone by.

@@ -11,7 +11,7 @@ ghost use Rattle.arrivals.specs.Arrivals.{next_offered};
 ghost use Rattle.arrivals.specs.Ways.{is_feed_due, is_feed_on, is_feed_to};
 
 use crate::due::is_due;
-use crate::feeding::{feed, feeds_term};
+use crate::feeding::{feed, feeds_term, sends_all_from};
 use crate::links::{is_cut, link_between};
 use post::Queue;
 use shard_calls::{Content, Stand};
@@ -138,7 +138,8 @@ fn offered(
     match manager_of(&fields.managers, from) {
         Some(source) => {
             if may_feed(fields, from, source, to, term, next) {
-                return feed(source.log(), replica.log(), from, to, term, next);
+                let row = sends_all_from(source);
+                return feed(source.log(), row, replica.log(), from, to, term, next);
             }
             None
         }
@@ -161,6 +162,7 @@ fn offer_by_stand(fields: &Fields, manager: &Manager, replica: &Alias) -> Option
         Stand::Replica { source, term, next } => {
             offered(fields, manager, replica, source, *term, *next)
         }
+        Stand::Feeder { .. } => None,
     }
 }
 

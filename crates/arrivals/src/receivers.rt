@@ -1,12 +1,15 @@
 ghost use Rattle.std.specs.Prelude.{◌≡◌, ◌&&◌, ◌||◌, not, nat_lt, nat_le, Some};
+ghost use Rattle.gtid_sets.specs.Logs.{position_of};
+ghost use Rattle.gtid_sets.specs.Position.{covers, nothing};
 ghost use Rattle.shard_calls.specs.Messages.{is_ready, is_received, may_arrive, is_deliverable};
 ghost use Rattle.shard_calls.specs.Stands.{is_down, is_primary_of};
-ghost use Rattle.shard_calls.specs.Tablets.{is_row_told};
+ghost use Rattle.shard_calls.specs.Tablets.{opened, is_row_told};
 ghost use Rattle.shard_state.specs.State.{seen, data_of, state_at, AreOfGroup};
 ghost use Rattle.shard_state.specs.Managers.{manager_of};
 ghost use Rattle.tablet_manager.specs.Managed.{state_of};
 
 use crate::links::{is_cut, link_of};
+use gtid_sets::{GtidSet, covers};
 use shard_calls::{Call, Content, Message};
 use shard_names::Alias;
 use shard_state::{Fields, is_down, manager_of, open_command};
@@ -22,6 +25,13 @@ fn has_outcome(manager: &Manager, term: u64, until: u64, now: u64) -> bool
         || until <= now
 }
 
+/// Whether the tablet holds the position, or has seen a later term, or the moment has come. It reads the position that the log keeps.
+fn has_position(manager: &Manager, term: u64, position: &GtidSet, until: u64, now: u64) -> bool
+    ensures { result ≡ (nat_lt term manager.now.log.seen || covers (position_of manager.now.log.entries) position.now || nat_le until now) }
+{
+    term < manager.log().seen() || covers(manager.log().held(), position) || until <= now
+}
+
 /// Whether the tablet, which has this manager, answers a call of this term yet.
 fn is_ready(fields: &Fields, to: &Alias, manager: &Manager, term: u64, call: &Call) -> bool
     requires there { manager_of fields.now.managers.items to.now ≡ Some manager.now }
@@ -34,18 +44,47 @@ fn is_ready(fields: &Fields, to: &Alias, manager: &Manager, term: u64, call: &Ca
         Call::Demote => true,
         Call::Promote { .. } => true,
         Call::SetSource { .. } => true,
+        Call::Feed => true,
+        Call::WaitFor { position, until } => {
+            has_position(manager, term, position, *until, fields.clock)
+        }
         Call::WaitTold { until } => has_outcome(manager, term, *until, fields.clock),
     }
 }
 
-/// Whether the tablet takes the call. One that is none of the shard's would.
+/// Whether who has nothing holds the position, or the moment has come. It takes no memory.
+fn nothing_holds(fields: &Fields, position: &GtidSet, until: u64) -> bool
+    ensures { result ≡ (covers nothing position.now || nat_le until fields.now.clock) }
+{
+    let none = GtidSet::empty(fields.alloc);
+    covers(&none, position) || until <= fields.clock
+}
+
+/// Whether a tablet that is none of the shard's, and so has done nothing, answers a call of this term yet.
+fn is_ready_nowhere(fields: &Fields, to: &Alias, term: u64, call: &Call) -> bool
+    requires nowhere { opened ≡ state_at fields.now.managers.items to.now }
+    ensures { result ≡ is_ready (seen (data_of fields.now)) to.now term call.now }
+{
+    match call {
+        Call::Status => true,
+        Call::Stop => true,
+        Call::Demote => true,
+        Call::Promote { .. } => true,
+        Call::SetSource { .. } => true,
+        Call::Feed => true,
+        Call::WaitFor { position, until } => nothing_holds(fields, position, *until),
+        Call::WaitTold { .. } => true,
+    }
+}
+
+/// Whether the tablet takes the call.
 fn takes_call(fields: &Fields, to: &Alias, term: u64, call: &Call) -> bool
     requires group { AreOfGroup (data_of fields.now) }
     ensures { result ≡ (not (is_down (state_at fields.now.managers.items to.now).stand) && is_ready (seen (data_of fields.now)) to.now term call.now) }
 {
     match manager_of(&fields.managers, to) {
         Some(manager) => { !manager.stand().is_down() && is_ready(fields, to, manager, term, call) }
-        None => true,
+        None => is_ready_nowhere(fields, to, term, call),
     }
 }
 

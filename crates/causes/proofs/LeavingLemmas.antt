@@ -6,7 +6,7 @@ use Rattle.std.specs.List.{cons_option}
 use Rattle.shard_base.specs.Options.{◌>>=◌}
 use Rattle.shard_names.specs.declared.alias.Alias.{Alias}
 use Rattle.shard_names.specs.Tablets.{alias_eq}
-use Rattle.shard_calls.specs.declared.command.NotJoined.{NotJoined}
+use Rattle.shard_calls.specs.declared.ending.NotJoined.{NotJoined}
 use Rattle.shard_calls.specs.declared.post.Message.{Message}
 use Rattle.shard_calls.specs.declared.state.Act.{Act}
 use Rattle.shard_calls.specs.Outcomes.{Sending, sending_of, sendings}

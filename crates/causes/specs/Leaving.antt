@@ -2,8 +2,8 @@
 use Rattle.std.specs.Prelude.{Bool, false, ◌&&◌, List, Option, Some, None, filter_map}
 use Rattle.shard_base.specs.Options.{◌>>=◌}
 use Rattle.shard_names.specs.Tablets.{alias_eq}
-use Rattle.shard_calls.specs.declared.command.Left.{Left}
-use Rattle.shard_calls.specs.declared.command.NotJoined.{NotJoined}
+use Rattle.shard_calls.specs.declared.ending.Left.{Left}
+use Rattle.shard_calls.specs.declared.ending.NotJoined.{NotJoined}
 use Rattle.shard_calls.specs.declared.post.Message.{Message}
 use Rattle.shard_calls.specs.declared.state.Act.{Act}
 use Rattle.shard_calls.specs.Outcomes.{sending_by, sending_of}

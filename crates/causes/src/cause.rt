@@ -1,16 +1,16 @@
 //! The cause of an answer.
 
-ghost use Rattle.std.specs.Prelude.{◌≡◌};
+ghost use Rattle.std.specs.Prelude.{◌≡◌, Option};
 ghost use Rattle.shard_calls.specs.World.{numbered, if_open};
-ghost use Rattle.shard_calls.specs.Causes.{has_planned_cause, wrote_this, has_write_cause, showed, has_show_cause, has_command_cause, has_cause};
-ghost use Rattle.shard_calls.specs.declared.command.CommandAnswer.TheVariants as answers;
+ghost use Rattle.shard_calls.specs.Causes.{has_planned_cause, wrote_this, has_write_cause, showed, has_show_cause, has_no_other_cause, has_external_cause, has_command_cause, has_cause};
+ghost use Rattle.shard_calls.specs.declared.ending.CommandAnswer.TheVariants as answers;
 ghost use Rattle.shard_names.specs.declared.alias.Alias.{Alias};
 ghost use Rattle.shard_state.specs.State.{data_of, config_in, seen};
 
 use crate::calls::{Kind, Wanted, came_to_in, is_some_of};
 use crate::equality::{position_eq, standing_eq};
 use crate::leaving::leaves_out;
-use crate::refusals::{has_refusal_cause, is_want_of_memory};
+use crate::refusals::{has_no_other_cause, has_refusal_cause};
 use crate::says::{was_not_primary, was_told};
 use crate::tablets::is_primary_at;
 use gtid_sets::{Gtid, GtidSet};
@@ -27,7 +27,7 @@ fn has_promoted(
     term: u64,
     left: &[NotJoined],
 ) -> bool
-    ensures { (new_primary : Alias) → result ≡ has_planned_cause (config_in (data_of fields.now)) (seen (data_of fields.now)) new_primary state.now (answers.Promoted alias.now term left.now) }
+    ensures { (given : Option Alias) → result ≡ has_planned_cause (config_in (data_of fields.now)) (seen (data_of fields.now)) given state.now (answers.Promoted alias.now term left.now) }
 {
     let post = &fields.post;
     let acts = state.acts.as_slice();
@@ -39,18 +39,20 @@ fn has_promoted(
 
 fn has_planned_cause(
     fields: &Fields,
-    new_primary: &Alias,
+    given: &Option<Alias>,
     state: &CommandState,
     answer: &CommandAnswer,
 ) -> bool
-    ensures { result ≡ has_planned_cause (config_in (data_of fields.now)) (seen (data_of fields.now)) new_primary.now state.now answer.now }
+    ensures { result ≡ has_planned_cause (config_in (data_of fields.now)) (seen (data_of fields.now)) given.now state.now answer.now }
 {
     match answer {
         CommandAnswer::Promoted { alias, term, left } => {
             has_promoted(fields, state, alias, *term, left.as_slice())
         }
-        CommandAnswer::Refused { refusal } => {
-            has_refusal_cause(fields, new_primary, state.acts.as_slice(), refusal)
+        CommandAnswer::NothingToDo { .. } => false,
+        CommandAnswer::Recorded { .. } => false,
+        CommandAnswer::Refused { refusal, undone } => {
+            undone.is_none() && has_refusal_cause(fields, given, state.acts.as_slice(), refusal)
         }
         CommandAnswer::Committed { .. } => false,
         CommandAnswer::NotPrimary { .. } => false,
@@ -84,14 +86,16 @@ fn has_write_cause(
         CommandAnswer::NotPrimary { alias, stand } => {
             was_not_primary(alias, stand, state.acts.as_slice())
         }
-        CommandAnswer::NoPrimaryRecorded => to.is_none() && state.primary.is_none(),
+        CommandAnswer::NoPrimaryRecorded => to.is_none() && state.opening.seen.recorded.is_none(),
         CommandAnswer::Unknown { gtid, alias, term } => {
             wrote_this(&state.wrote, gtid, alias, *term)
                 && !was_told(state.acts.as_slice())
                 && !is_primary_at(&fields.managers, alias, *term)
         }
         CommandAnswer::Promoted { .. } => false,
-        CommandAnswer::Refused { refusal } => is_want_of_memory(refusal),
+        CommandAnswer::NothingToDo { .. } => false,
+        CommandAnswer::Recorded { .. } => false,
+        CommandAnswer::Refused { refusal, undone } => has_no_other_cause(refusal, undone),
         CommandAnswer::Shown { .. } => false,
     }
 }
@@ -115,13 +119,25 @@ fn has_show_cause(asked: &Alias, state: &CommandState, answer: &CommandAnswer) -
             alias,
             stand,
             position,
-        } => *asked == *alias && showed(&state.shown, stand, position),
-        CommandAnswer::Refused { refusal } => is_want_of_memory(refusal),
+        } => *asked == *alias && showed(&state.opening.shown, stand, position),
+        CommandAnswer::NothingToDo { .. } => false,
+        CommandAnswer::Recorded { .. } => false,
+        CommandAnswer::Refused { refusal, undone } => has_no_other_cause(refusal, undone),
         CommandAnswer::Promoted { .. } => false,
         CommandAnswer::Committed { .. } => false,
         CommandAnswer::NotPrimary { .. } => false,
         CommandAnswer::NoPrimaryRecorded => false,
         CommandAnswer::Unknown { .. } => false,
+    }
+}
+
+/// Of a promotion by other hands.
+fn has_external_cause(answer: &CommandAnswer) -> bool
+    ensures { result ≡ has_external_cause answer.now }
+{
+    match answer {
+        CommandAnswer::Refused { refusal, undone } => has_no_other_cause(refusal, undone),
+        _ => false,
     }
 }
 
@@ -132,6 +148,7 @@ fn has_command_cause(fields: &Fields, state: &CommandState, answer: &CommandAnsw
         Command::Planned { new_primary, .. } => {
             has_planned_cause(fields, new_primary, state, answer)
         }
+        Command::External { .. } => has_external_cause(answer),
         Command::Write { to } => has_write_cause(fields, to, state, answer),
         Command::Show { alias } => has_show_cause(alias, state, answer),
     }

@@ -53,5 +53,9 @@ pub(crate) fn standing_eq(x: &Standing, y: &Standing) -> bool
             } => *source == *from && *term == *other,
             _ => false,
         },
+        Standing::Feeder { term } => match y {
+            Standing::Feeder { term: other } => *term == *other,
+            _ => false,
+        },
     }
 }

@@ -5,7 +5,7 @@ ghost use Rattle.shard_calls.specs.Outcomes.{Answered, outcome_by, outcome_of};
 ghost use Rattle.causes.specs.Calls.{brought_by};
 ghost use Rattle.shard_calls.specs.Causes.{is_set_source, left_eq, left_by, says_recorded, leaves_out};
 ghost use Rattle.causes.specs.Leaving.{is_left, is_entry, left_out_in, left_out_by, are_left};
-ghost use Rattle.shard_calls.specs.declared.command.Left.TheVariants as lefts;
+ghost use Rattle.shard_calls.specs.declared.ending.Left.TheVariants as lefts;
 
 use crate::calls::message_of;
 use crate::equality::{position_eq, why_eq};
@@ -98,7 +98,7 @@ fn is_given_up(left: &Left, why: &Why) -> bool
     ensures { result ≡ left_eq left.now (lefts.GivenUp why.now) }
 {
     match left {
-        Left::GivenUp { why: other } => why_eq(other, why),
+        Left::GivenUp(other) => why_eq(other, why),
         _ => false,
     }
 }

@@ -13,10 +13,7 @@ fn says_taken(term: u64, by: &Name, act: &Act) -> bool
     ensures { result ≡ says_taken term by.now act.now }
 {
     match act {
-        Act::Taken {
-            term: held,
-            by: name,
-        } => *held == term && *name == *by,
+        Act::Taken { term: held, actor } => *held == term && *actor == *by,
         _ => false,
     }
 }
@@ -43,7 +40,7 @@ fn says_intent(term: u64, act: &Act) -> bool
     ensures { result ≡ says_intent term act.now }
 {
     match act {
-        Act::Read { seen } => is_of_term(term, &seen.last_intent),
+        Act::Read { seen } => is_of_term(term, &seen.intent),
         _ => false,
     }
 }

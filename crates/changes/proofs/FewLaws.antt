@@ -55,7 +55,8 @@ writes_more n m [] le h = tt
 writes_more n m (a ∷ us) le h = (omega (arith, h.0), writes_more n m us le h.1)
 
 writes_one : (command : Command) → writes_by command ≤ 1
-writes_one (commands.Planned shard new_primary) = omega arith
+writes_one (commands.Planned shard new_primary avoid expected timeout allow_cross_cell) = omega arith
+writes_one (commands.External a) = omega arith
 writes_one (commands.Write to) = omega arith
 writes_one (commands.Show a) = omega arith
 

@@ -4,7 +4,7 @@ use Rattle.std.specs.List.{slice_get}
 use Rattle.std.specs.Str.{bytes_eq}
 use Rattle.shard_names.specs.declared.alias.Alias.{Alias}
 use Rattle.gtid_sets.specs.declared.entry.Entry.{Entry}
-use Rattle.shard_calls.specs.Logs.{own_number, greatest_number}
+use Rattle.gtid_sets.specs.Logs.{own_number, greatest_number}
 use Rattle.shard_calls.specs.World.{World}
 use Rattle.changes.specs.Few.{AreFew}
 

@@ -48,6 +48,7 @@ by_stand config w r stands.Down content sound is h = absurd (let none : None ≡
 by_stand config w r stands.Stopped content sound is h = absurd (let none : None ≡ Some content = h in cc)
 by_stand config w r (stands.Primary t) content sound is h = absurd (let none : None ≡ Some content = h in cc)
 by_stand config w r (stands.Demoted t by) content sound is h = absurd (let none : None ≡ Some content = h in cc)
+by_stand config w r (stands.Feeder t) content sound is h = absurd (let none : None ≡ Some content = h in cc)
 by_stand config w r (stands.Replica s t n) content sound is h =
     let first : 1 ≤ n = (subst (λ (x : Stand). HasSource config x) is (sound.sources r)).1 in
     by_test w s r t n content (may_feed w s r t n) is first h

@@ -10,7 +10,7 @@ use Rattle.shard_names.specs.declared.alias.Alias.{Alias}
 use Rattle.shard_names.specs.declared.tablet.Tablet.{Tablet}
 use Rattle.tablet_manager.specs.Managed.{Managed, state_of, SameTablet}
 use Rattle.shard_calls.specs.Groups.{Group}
-use Rattle.shard_calls.specs.Logs.{greatest_number}
+use Rattle.gtid_sets.specs.Logs.{greatest_number}
 use Rattle.shard_calls.specs.Tablets.{TabletState}
 use Rattle.shard_calls.specs.World.{at_tablet}
 use Rattle.shard_state.specs.State.{tablets_of, groups_in, state_at}

@@ -23,9 +23,9 @@ use Rattle.shard_calls.specs.declared.stand.Stand.{Stand}
 use Rattle.shard_calls.specs.declared.stand.Stand.TheVariants as stands
 use Rattle.shard_calls.specs.declared.state.CommandState.{CommandState}
 use Rattle.shard_calls.specs.Groups.{Group}
-use Rattle.shard_calls.specs.Logs.{has_row, newest_row_names, position_of}
-use Rattle.shard_calls.specs.Stands.{is_down, is_primary_of, is_replica_in, primary_term, takes_from, waits_for}
-use Rattle.shard_calls.specs.Tablets.{TabletState, Verdict, after_call, in_term, only_says, stops, demotes, promotes, joins, waits_told, writes_own}
+use Rattle.gtid_sets.specs.Logs.{has_row, newest_row_names, position_of}
+use Rattle.shard_calls.specs.Stands.{is_down, is_stopped, is_primary_of, is_replica_in, is_feeder_in, primary_term, takes_from, waits_for}
+use Rattle.shard_calls.specs.Tablets.{TabletState, Verdict, after_call, in_term, only_says, stops, demotes, promotes, joins, feeds, waits_for_position, waits_told, writes_own}
 use Rattle.shard_calls.specs.World.{Config, World, group_of, opening, numbered, open_command, term_in}
 use Rattle.shard_calls.specs.Locks.{by_term}
 use Rattle.shard_calls.specs.Deliveries.{may_send, may_ask_in, asks_status}
@@ -53,6 +53,8 @@ asked_in config w c a (calls.SetSource source t p) u met =
     let front : (is_declared config.tablets source && not (alias_eq source a)) ≡ true = both_left (is_declared config.tablets source && not (alias_eq source a)) (nat_le t u) met in
     let low : t ≤ u = (let test : nat_le t u ≡ true = both_right (is_declared config.tablets source && not (alias_eq source a)) (nat_le t u) met in grind (arith, nat_tests)) in
     ((not_false (alias_eq source a) (both_right (is_declared config.tablets source) (not (alias_eq source a)) front), low), both_left (is_declared config.tablets source) (not (alias_eq source a)) front)
+asked_in config w c a calls.Feed u met = (tt, tt)
+asked_in config w c a (calls.WaitFor p until) u met = (tt, tt)
 asked_in config w c a (calls.WaitTold until) u met = (tt, tt)
 
 no_term : (config : Config) (a : Alias) (call : Call) → asks_status call ≡ true → FitsCall a 0 call × NamesSource config call
@@ -61,6 +63,8 @@ no_term config a calls.Stop is = absurd (false≢true is)
 no_term config a calls.Demote is = absurd (false≢true is)
 no_term config a (calls.Promote p) is = absurd (false≢true is)
 no_term config a (calls.SetSource source t p) is = absurd (false≢true is)
+no_term config a calls.Feed is = absurd (false≢true is)
+no_term config a (calls.WaitFor p until) is = absurd (false≢true is)
 no_term config a (calls.WaitTold until) is = absurd (false≢true is)
 
 asked_term : (config : Config) (w : World) (c : ℕ) (a : Alias) (call : Call) (t : Option ℕ) → by_term t (asks_status call) (may_ask_in config w c a call) ≡ true
@@ -124,6 +128,11 @@ call_source config g me u (calls.SetSource source t p) s named old =
     (chosen (Stays config) (nat_lt t s.promised) _ _ (λ ahead. old)
     (λ fresh. chosen (Stays config) (is_primary_of s.stand t || is_replica_in s.stand t) _ _ (λ kept. old)
     (λ other. chosen (Stays config) (covers p (position_of s.log)) _ _ (λ inside. (named, omega arith)) (λ errant. old))))
+call_source config g me u calls.Feed s named old =
+    in_term_source config u s (feeds u) old
+    (chosen (Stays config) (is_feeder_in s.stand u) _ _ (λ feeder. old)
+    (λ other. chosen (Stays config) (is_stopped s.stand && (s.promised == u)) _ _ (λ stopped. tt) (λ kept. old)))
+call_source config g me u (calls.WaitFor p until) s named old = in_term_source config u s (waits_for_position p) old old
 call_source config g me u (calls.WaitTold until) s named old = in_term_source config u s (waits_told g me u) old old
 
 waits_source : (config : Config) (at : Stand) (index : ℕ) → HasSource config at → HasSource config (waits_for at (index + 1))
@@ -132,6 +141,7 @@ waits_source config stands.Stopped index old = tt
 waits_source config (stands.Primary t) index old = tt
 waits_source config (stands.Demoted t by) index old = tt
 waits_source config (stands.Replica source t next) index old = (old.0, omega arith)
+waits_source config (stands.Feeder t) index old = tt
 
 write_source : (config : Config) (o : Option ℕ) (me : Tablet) (client number : ℕ) (s : TabletState) → HasSource config s.stand
     → HasSource config (elim o as (λ _. Verdict Written) [ Some t ↦ writes_own me (kinds.Write t client number) s | None ↦ only_says s (written.NotPrimary s.stand) ]).state.stand

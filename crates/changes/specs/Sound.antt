@@ -19,6 +19,8 @@ FitsCall to term calls.Stop = ⊤
 FitsCall to term calls.Demote = ⊤
 FitsCall to term (calls.Promote p) = ⊤
 FitsCall to term (calls.SetSource source t p) = (alias_eq source to ≡ false) × (t ≤ term)
+FitsCall to term calls.Feed = ⊤
+FitsCall to term (calls.WaitFor p until) = ⊤
 FitsCall to term (calls.WaitTold until) = ⊤
 
 -- the source that a call names is declared
@@ -28,6 +30,8 @@ NamesSource config calls.Stop = ⊤
 NamesSource config calls.Demote = ⊤
 NamesSource config (calls.Promote p) = ⊤
 NamesSource config (calls.SetSource source t p) = is_declared config.tablets source ≡ true
+NamesSource config calls.Feed = ⊤
+NamesSource config (calls.WaitFor p until) = ⊤
 NamesSource config (calls.WaitTold until) = ⊤
 
 abbrev pub IsSoundContent : Config → Content → Type 0
@@ -43,6 +47,7 @@ HasSource config stands.Stopped = ⊤
 HasSource config (stands.Primary t) = ⊤
 HasSource config (stands.Demoted t by) = ⊤
 HasSource config (stands.Replica source t next) = (is_declared config.tablets source ≡ true) × (1 ≤ next)
+HasSource config (stands.Feeder t) = ⊤
 
 pub record AreSound (config : Config) (w : World) : Type 0 where
   pub post : (k : ℕ) (m : Message) → numbered w.post k ≡ Some m → IsSoundContent config m.content

@@ -147,6 +147,7 @@ pub(crate) fn count_write(writes: u64, command: &Command) -> u64
 {
     match command {
         Command::Planned { .. } => writes,
+        Command::External { .. } => writes,
         Command::Write { .. } => writes + 1,
         Command::Show { .. } => writes,
     }

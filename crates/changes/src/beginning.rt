@@ -1,5 +1,6 @@
 ghost use Rattle.std.specs.Prelude.{◌≡◌, ◌<◌, ◌≤◌, ◌+◌, ◌-◌, ◌^◌, ◌∷◌, ◌++◌, [], true, length, OnOk, OnErr, IfOk, IfSome, vec_len, vec_capacity};
 ghost use Rattle.shard_calls.specs.World.{place_of};
+ghost use Rattle.shard_calls.specs.Locks.{seen_of};
 ghost use Rattle.shard_calls.specs.Begins.{begun_state, client_of, names_declared, number_of, shown_by, with_actor};
 ghost use Rattle.shard_calls.specs.Table.{meets};
 ghost use Rattle.shard_calls.specs.declared.event.Event.TheVariants as events;
@@ -8,9 +9,10 @@ ghost use Rattle.changes.specs.Few.{HaveFewWrites, AreFew};
 ghost use Rattle.changes.specs.Makes.{Makes};
 
 use crate::acts::{close, count_write, open, set_ended};
+use crate::lock::seen_in;
 use crate::tablets::show;
 use shard_base::{Items, OutOfMemory};
-use shard_calls::{ActorState, Command, CommandAnswer, CommandState, Reply, Shown};
+use shard_calls::{ActorState, Command, CommandAnswer, CommandState, Opening, Reply, Shown};
 use shard_names::Name;
 use shard_state::{Fields, open_command};
 
@@ -77,6 +79,7 @@ fn shown_by(fields: &Fields, command: &Command) -> Result<Option<Shown>, OutOfMe
 {
     match command {
         Command::Planned { .. } => Ok(None),
+        Command::External { .. } => Ok(None),
         Command::Write { .. } => Ok(None),
         Command::Show { alias } => {
             let shown = show(&fields.managers, alias)?;
@@ -85,15 +88,20 @@ fn shown_by(fields: &Fields, command: &Command) -> Result<Option<Shown>, OutOfMe
     }
 }
 
+/// What stands where the command begins.
+fn opening_of(fields: &Fields, command: &Command) -> Result<Opening, OutOfMemory>
+    requires named { names_declared (config_in (data_of fields.now)) command.now ≡ true }
+    ensures { IfOk result (λ opening. opening ≡ record { seen = seen_of fields.now.topo.topology; shown = shown_by (seen (data_of fields.now)) command.now }) }
+{
+    let shown = shown_by(fields, command)?;
+    let seen = seen_in(fields.alloc, &fields.topo)?;
+    Ok(Opening { seen, shown })
+}
+
 /// A command that has just begun.
-fn begun_state(
-    fields: &Fields,
-    name: &Name,
-    command: &Command,
-    shown: Option<Shown>,
-) -> CommandState
+fn begun_state(fields: &Fields, name: &Name, command: &Command, opening: Opening) -> CommandState
     requires few { AreFew (2 ^ 20) (seen (data_of fields.now)) }
-    requires shown { shown ≡ shown_by (seen (data_of fields.now)) command.now }
+    requires opening { opening ≡ record { seen = seen_of fields.now.topo.topology; shown = shown_by (seen (data_of fields.now)) command.now } }
     ensures { result ≡ begun_state (seen (data_of fields.now)) name.now command.now }
 {
     CommandState {
@@ -101,8 +109,7 @@ fn begun_state(
         actor: *name,
         client: client_of(&fields.actors, name),
         number: number_of(&fields.actors, name, command),
-        primary: fields.topo.recorded(),
-        shown,
+        opening,
         term: None,
         released: false,
         ended: false,
@@ -129,9 +136,9 @@ pub(crate) fn begin(
     ensures made { IfOk result (λ reply. Makes (data_of fields.old) (data_of fields.new) (events.Begin name.now command.now) reply) }
     ensures err { OnErr result (data_of fields.new ≡ data_of fields.old) }
 {
-    let shown = shown_by(fields, command)?;
+    let opening = opening_of(fields, command)?;
     let number = next_number(&fields.commands);
-    let state = begun_state(fields, name, command, shown);
+    let state = begun_state(fields, name, command, opening);
     let client = state.client as usize;
     fields.actors.reserve(1)?;
     fields.commands.reserve(1)?;

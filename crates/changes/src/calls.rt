@@ -37,6 +37,14 @@ pub(crate) fn copy_call(call: &Call) -> Result<Call, OutOfMemory>
                 position,
             })
         }
+        Call::Feed => Ok(Call::Feed),
+        Call::WaitFor { position, until } => {
+            let position = position.copy()?;
+            Ok(Call::WaitFor {
+                position,
+                until: *until,
+            })
+        }
         Call::WaitTold { until } => Ok(Call::WaitTold { until: *until }),
     }
 }

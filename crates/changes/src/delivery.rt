@@ -1,7 +1,7 @@
 ghost use Rattle.std.specs.Prelude.{◌≡◌, ◌<◌, ◌≤◌, ◌-◌, ◌^◌, ℕ, List, true, false, length, OnOk, OnErr, IfOk, Some};
 ghost use Rattle.shard_names.specs.Tablets.{alias_eq, is_declared, tablet_of};
 ghost use Rattle.shard_names.specs.declared.tablet.Tablet.{Tablet};
-ghost use Rattle.shard_calls.specs.Logs.{greatest_number};
+ghost use Rattle.gtid_sets.specs.Logs.{greatest_number};
 ghost use Rattle.shard_calls.specs.Groups.{Group};
 ghost use Rattle.shard_calls.specs.Stands.{is_down, takes_from};
 ghost use Rattle.shard_calls.specs.Tablets.{accepts, after_ack, after_call, answer_to};
@@ -45,6 +45,11 @@ fn run(manager: &mut Manager, term: u64, call: &Call) -> Result<Answer, OutOfMem
             stand,
             position,
         } => manager.set_source(term, source, *stand, position),
+        Call::Feed => manager.feed(term),
+        Call::WaitFor { position, until } => {
+            let _until = *until;
+            manager.wait_for(term, position)
+        }
         Call::WaitTold { until } => {
             let _until = *until;
             manager.wait_told(term)

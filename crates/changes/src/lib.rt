@@ -17,4 +17,5 @@ pub use found::Found;
 pub use laws::{
     fields_go_on_fitting, group_stays, messages_stay_sound, no_row_reads_past, numbers_stay_few,
 };
+pub use lock::seen_in;
 pub use rows::change;

@@ -1,7 +1,7 @@
 ghost use Rattle.std.specs.Prelude.{◌≡◌, ◌<◌, ◌-◌, ◌^◌, true, OnOk, OnErr, IfOk};
-ghost use Rattle.topo_lock.specs.Topology.{is_held_in, last_intent, after_release};
+ghost use Rattle.topo_lock.specs.Topology.{is_held_in, after_release};
 ghost use Rattle.shard_calls.specs.World.{changed_at, with_act};
-ghost use Rattle.shard_calls.specs.Locks.{by_term};
+ghost use Rattle.shard_calls.specs.Locks.{by_term, seen_of};
 ghost use Rattle.shard_calls.specs.Table.{meets};
 ghost use Rattle.shard_calls.specs.declared.state.Act.TheVariants as acts;
 ghost use Rattle.shard_calls.specs.declared.event.Event.TheVariants as events;
@@ -9,10 +9,11 @@ ghost use Rattle.shard_state.specs.State.{data_of, config_in, seen};
 ghost use Rattle.changes.specs.Makes.{Makes};
 
 use crate::acts::{act, note_lost, set_released, set_term};
-use shard_base::OutOfMemory;
+use shard_base::{Items, OutOfMemory};
 use shard_calls::{Act, CommandState, Reply, Seen};
 use shard_names::{Alias, Name};
 use shard_state::{Fields, open_command, term_of};
+use std::alloc::Global;
 use topo_lock::{Holder, Topo, TopoFault};
 
 /// The command found the lock held in this term, by a command of this actor.
@@ -25,7 +26,7 @@ fn note_taken(
     ensures ok { OnOk result (commands.new.items ≡ changed_at commands.old.items command (with_act (acts.Taken term by.now))) }
     ensures err { OnErr result (commands.new.items ≡ commands.old.items) }
 {
-    act(commands, command, Act::Taken { term, by: *by })
+    act(commands, command, Act::Taken { term, actor: *by })
 }
 
 /// Takes the lock, unless it is held.
@@ -45,7 +46,7 @@ pub(crate) fn take(fields: &mut Fields, command: u64) -> Result<Reply, OutOfMemo
             note_taken(&mut fields.commands, command, term, &held.actor)?;
             Ok(Reply::Taken {
                 term,
-                by: held.actor,
+                actor: held.actor,
             })
         }
         None => {
@@ -57,14 +58,23 @@ pub(crate) fn take(fields: &mut Fields, command: u64) -> Result<Reply, OutOfMemo
     }
 }
 
-/// What one who holds the lock reads.
-fn seen_in(topo: &Topo) -> Seen
-    ensures { result ≡ record { recorded = topo.now.topology.recorded; last_intent = last_intent topo.now.topology } }
+fn copied(alloc: Global, aliases: &[Alias]) -> Result<Items<Alias>, OutOfMemory>
+    ensures { IfOk result (λ copy. copy ≡ aliases.now) }
 {
-    Seen {
+    let items = Vec::from_slice(alloc, aliases)?;
+    Ok(Items::from_vec(items))
+}
+
+/// What one who holds the lock reads.
+pub fn seen_in(alloc: Global, topo: &Topo) -> Result<Seen, OutOfMemory>
+    ensures { IfOk result (λ seen. seen ≡ seen_of topo.now.topology) }
+{
+    let drained = copied(alloc, topo.drained())?;
+    Ok(Seen {
         recorded: topo.recorded(),
-        last_intent: topo.last_intent(),
-    }
+        intent: topo.last_intent(),
+        drained,
+    })
 }
 
 /// Reads the topology, if the command holds the lock.
@@ -80,13 +90,10 @@ pub(crate) fn read(fields: &mut Fields, command: u64) -> Result<Reply, OutOfMemo
     if !fields.topo.is_held_in(term) {
         return note_lost(&mut fields.commands, command, fields.topo.term());
     }
-    let new = Act::Read {
-        seen: seen_in(&fields.topo),
-    };
-    act(&mut fields.commands, command, new)?;
-    Ok(Reply::Seen {
-        seen: seen_in(&fields.topo),
-    })
+    let kept = seen_in(fields.alloc, &fields.topo)?;
+    let told = seen_in(fields.alloc, &fields.topo)?;
+    act(&mut fields.commands, command, Act::Read { seen: kept })?;
+    Ok(Reply::Read(told))
 }
 
 /// Intends the tablet in the command's term.

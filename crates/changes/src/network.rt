@@ -102,7 +102,7 @@ pub(crate) fn give_up(fields: &mut Fields, command: u64, message: u64, why: Opti
     match why {
         Some(why) => {
             fields.post.settle(message, Settled::GaveUp { why });
-            Reply::GaveUp { why }
+            Reply::GaveUp(why)
         }
         None => Reply::Ok,
     }

@@ -18,7 +18,7 @@ use shard_state::Fields;
 
 /// Changes the fields as the event's row does, and gives its reply. Want of memory changes nothing.
 ///
-/// `found` has what the condition of a GiveUp, an Offer or a Tell has found. What an Offer sends is taken out of it.
+/// `found` has what the condition of a GiveUp, an Offer or a Tell has found. What an Offer sends, and what a Tell is told, is taken out of it.
 pub fn change(fields: &mut Fields, event: &Event, found: &mut Found) -> Result<Reply, OutOfMemory>
     requires met { meets (config_in (data_of fields.old)) (seen (data_of fields.old)) event.now ≡ true }
     requires few { AreFew (2 ^ 20) (seen (data_of fields.old)) }
@@ -48,14 +48,14 @@ pub fn change(fields: &mut Fields, event: &Event, found: &mut Found) -> Result<R
         },
         Event::Offer { alias } => offer(fields, alias, found.offer.take()),
         Event::Write { command, alias } => write(fields, *command, alias),
-        Event::Tell { command } => tell(fields, *command, found.told),
+        Event::Tell { command } => tell(fields, *command, found.told.take()),
         Event::Local { alias } => write_local(fields, alias),
         Event::Crash { alias, keep } => Ok(crash(fields, alias, *keep)),
         Event::Restart { alias } => Ok(restart(fields, alias)),
         Event::Cut { x, y } => cut(fields, x, y),
         Event::Mend { x, y } => Ok(mend(fields, x, y)),
         Event::Lose { message } => Ok(lose(fields, *message)),
-        Event::Tick { milliseconds } => Ok(tick(fields, *milliseconds)),
+        Event::Tick { ms } => Ok(tick(fields, *ms)),
         Event::End { command, answer } => Ok(end(fields, *command, answer)),
     }
 }

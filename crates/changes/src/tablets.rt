@@ -1,7 +1,7 @@
 ghost use Rattle.std.specs.Prelude.{◌≡◌, ◌<◌, ◌≤◌, ℕ, List, true, false, length, position, MatchOption, OnOk, OnErr, IfOk, IfSome, Some};
 ghost use Rattle.shard_names.specs.Tablets.{alias_eq, tablet_of, is_declared};
 ghost use Rattle.shard_names.specs.declared.tablet.Tablet.{Tablet};
-ghost use Rattle.shard_calls.specs.Logs.{greatest_number};
+ghost use Rattle.gtid_sets.specs.Logs.{greatest_number};
 ghost use Rattle.shard_calls.specs.Stands.{is_down, primary_term};
 ghost use Rattle.shard_calls.specs.Begins.{shown_of};
 ghost use Rattle.shard_calls.specs.Tablets.{after_crash, restarts, writes_local, writes};

@@ -1,6 +1,6 @@
 ghost use Rattle.std.specs.Prelude.{◌≡◌, ◌<◌, ◌≤◌, ◌+◌, ◌-◌, ◌^◌, ℕ, List, true, length, OnOk, OnErr, IfOk, Some};
 ghost use Rattle.shard_names.specs.Tablets.{is_declared};
-ghost use Rattle.shard_calls.specs.Logs.{greatest_number};
+ghost use Rattle.gtid_sets.specs.Logs.{greatest_number};
 ghost use Rattle.shard_calls.specs.Stands.{primary_term, standing_of};
 ghost use Rattle.shard_calls.specs.World.{changed_at, with_act};
 ghost use Rattle.shard_calls.specs.Table.{meets};

@@ -10,8 +10,8 @@ use Rattle.shard_names.specs.declared.tablet.Tablet.{Tablet}
 use Rattle.gtid_sets.specs.Position.{Position, nothing}
 use Rattle.shard_calls.specs.declared.call.Call.{Call}
 use Rattle.shard_calls.specs.declared.call.Call.TheVariants as calls
-use Rattle.shard_calls.specs.declared.command.CommandAnswer.TheVariants as answers
-use Rattle.shard_calls.specs.declared.command.Refusal.{Refusal}
+use Rattle.shard_calls.specs.declared.ending.CommandAnswer.TheVariants as answers
+use Rattle.shard_calls.specs.declared.refusal.Refusal.{Refusal}
 use Rattle.shard_calls.specs.declared.event.Event.{Event}
 use Rattle.shard_calls.specs.declared.event.Event.TheVariants as events
 use Rattle.shard_calls.specs.declared.post.Content.{Content}

@@ -1,5 +1,5 @@
 -- What is known of commands and of the topology stays over every step.
-use Rattle.std.proofs.Common.{◌≡◌, ◌⊎◌, inl, inr, ℕ, ◌+◌, ◌≤◌, List, [], ◌∷◌, ◌++◌, Bool, true, false, not, Option, Some, None, Result, Ok, Err, cond, ◌||◌, ◌==◌, nat_lt, is_none, is_some, length, refl, ap, sym, subst, ◌∙◌, arith}
+use Rattle.std.proofs.Common.{◌≡◌, ◌⊎◌, inl, inr, ℕ, ◌+◌, ◌≤◌, List, [], ◌∷◌, ◌++◌, Bool, true, false, not, Option, Some, None, Result, Ok, Err, cond, ◌&&◌, ◌||◌, ◌==◌, nat_lt, nat_le, is_none, is_some, length, refl, ap, sym, subst, ◌∙◌, arith}
 use Rattle.std.proofs.lemmas.Bool.{false≢true}
 use Rattle.std.proofs.lemmas.Bool.Decides.{nat_tests, Decides-eqb}
 use Rattle.std.specs.List.{list_any}
@@ -32,13 +32,14 @@ use Rattle.shard_calls.specs.declared.post.Message.{Message}
 use Rattle.shard_calls.specs.declared.state.Act.{Act}
 use Rattle.shard_calls.specs.declared.state.Act.TheVariants as acts
 use Rattle.shard_calls.specs.declared.state.CommandState.{CommandState}
+use Rattle.shard_calls.specs.declared.state.Opening.{Opening}
 use Rattle.shard_calls.specs.declared.why.Why.{Why}
 use Rattle.shard_calls.specs.Evidence.{is_first}
 use Rattle.shard_calls.specs.Tablets.{TabletState}
-use Rattle.shard_calls.specs.World.{Config, World, numbered, changed_at, on_message, arrives, with_act, if_open, open_command, term_in, term_of}
-use Rattle.shard_calls.specs.Messages.{why_given_up, offer_to}
-use Rattle.shard_calls.specs.Begins.{names_declared, shown_by, begun_state, ends_by}
-use Rattle.shard_calls.specs.Locks.{took_nothing, with_taken, takes_by, by_term, read_act, reads, with_intended, intends_in, with_recorded, records_in, as_released, releases_in}
+use Rattle.shard_calls.specs.World.{Config, World, numbered, changed_at, on_message, arrives, with_act, open_of, if_open, open_command, term_in, term_of}
+use Rattle.shard_calls.specs.Messages.{timeout_of, why_given_up, offer_to}
+use Rattle.shard_calls.specs.Begins.{is_in_time, names_declared, shown_by, begun_state, ends_by}
+use Rattle.shard_calls.specs.Locks.{seen_of, took_nothing, with_taken, takes_by, by_term, read_act, reads, with_intended, intends_in, with_recorded, records_in, as_released, releases_in}
 use Rattle.shard_calls.specs.Deliveries.{if_declared, asked, fed, feed_verdict, after_arrival, after_delivery, gives_up, offers}
 use Rattle.shard_calls.specs.Writes.{with_written, write_verdict, writes_at, writes_in, tell_of, tells}
 use Rattle.shard_calls.specs.Table.{Met, after}
@@ -90,6 +91,7 @@ moved_fit config s t x move h = record {
   writes = h.writes;
   primary = h.primary;
   shows = h.shows;
+  in_time = h.in_time;
 }
 
 all_moved : (config : Config) (s t : Topology) (xs : List CommandState) → TopoMove s t → AllFit config s xs → AllFit config t xs
@@ -116,6 +118,7 @@ acted_fit config topo act x none h = record {
   writes = h.writes;
   primary = h.primary;
   shows = h.shows;
+  in_time = h.in_time;
 }
   where
     of_cases : (list_any found_none x.acts ≡ true) ⊎ (found_none act ≡ true) → list_any found_none x.acts ≡ true
@@ -123,17 +126,18 @@ acted_fit config topo act x none h = record {
     of_cases (inr k) = absurd (false≢true (sym none ∙ k))
 
 -- something else changes than what is known of it
-other_fit : (config : Config) (topo : Topology) (x y : CommandState) → y.term ≡ x.term → y.acts ≡ x.acts → y.command ≡ x.command → y.primary ≡ x.primary
-    → y.shown ≡ x.shown → CommandFits config topo x → CommandFits config topo y
-other_fit config topo x y term done command primary shown h = record {
+other_fit : (config : Config) (topo : Topology) (x y : CommandState) → y.term ≡ x.term → y.acts ≡ x.acts → y.command ≡ x.command → y.opening ≡ x.opening
+    → CommandFits config topo x → CommandFits config topo y
+other_fit config topo x y term done command opening h = record {
   within = λ t is. h.within t (sym term ∙ is);
   reads =
       λ read.
       ap (λ (o : Option ℕ). by_term o false (is_first topo)) term
       ∙ h.reads (ap (λ (acts : List Act). list_any found_none acts) (sym done) ∙ read);
   writes = λ a is. h.writes a (sym command ∙ is);
-  primary = λ r is. h.primary r (sym primary ∙ is);
-  shows = λ a is. ap (λ (o : Option _). is_some o) shown ∙ h.shows a (sym command ∙ is);
+  primary = λ r is. h.primary r (ap (λ (o : Opening). o.seen.recorded) (sym opening) ∙ is);
+  shows = λ a is. ap (λ (o : Opening). is_some o.shown) opening ∙ h.shows a (sym command ∙ is);
+  in_time = subst (λ (v : Command). timeout_of v ≤ 86400000) (sym command) h.in_time;
 }
 
 -- ---- Take
@@ -152,6 +156,7 @@ taken_fit config topo x (Ok t) none own h = record {
   writes = h.writes;
   primary = h.primary;
   shows = h.shows;
+  in_time = h.in_time;
 }
 taken_fit config topo x (Err held) none own h = acted_fit config topo (acts.Taken held.term held.actor) x refl h
 
@@ -197,14 +202,15 @@ no_intents (i ∷ j ∷ is) u h = absurd (some_last j is h)
 
 read_act_fit : (config : Config) (topo : Topology) (t : ℕ) (x : CommandState) (held : Bool) → x.term ≡ Some t → CommandFits config topo x
     → CommandFits config topo
-    (with_act (cond held (acts.Read (record { recorded = topo.recorded; last_intent = last_intent topo })) (acts.Lost topo.term)) x)
+    (with_act (cond held (acts.Read (seen_of topo)) (acts.Lost topo.term)) x)
 read_act_fit config topo t x false term h = acted_fit config topo (acts.Lost topo.term) x refl h
 read_act_fit config topo t x true term h = record {
   within = h.within;
-  reads = λ read. of_cases (any-push_cases found_none x.acts (acts.Read (record { recorded = topo.recorded; last_intent = last_intent topo })) read);
+  reads = λ read. of_cases (any-push_cases found_none x.acts (acts.Read (seen_of topo)) read);
   writes = h.writes;
   primary = h.primary;
   shows = h.shows;
+  in_time = h.in_time;
 }
   where
     of_cases : (list_any found_none x.acts ≡ true) ⊎ (is_none (last_intent topo) ≡ true) → by_term x.term false (is_first topo) ≡ true
@@ -251,13 +257,13 @@ release_fit : (config : Config) (w : World) (d : ℕ) (o : Option ℕ) → AllFi
 release_fit config w d None all = all
 release_fit config w d (Some t) all =
     changed_fit config (releases_in w d t).topo w.commands d as_released all
-    (λ x here h. other_fit config (releases_in w d t).topo x (as_released x) refl refl refl refl refl h)
+    (λ x here h. other_fit config (releases_in w d t).topo x (as_released x) refl refl refl refl h)
 
 -- ---- Write, Tell and End
 
 written_state_fit : (config : Config) (topo : Topology) (a : Alias) (old : TabletState) (r : Written) (x : CommandState) → CommandFits config topo x
     → CommandFits config topo (with_written a old r x)
-written_state_fit config topo a old (writtens.Entry g) x h = other_fit config topo x (with_written a old (writtens.Entry g) x) refl refl refl refl refl h
+written_state_fit config topo a old (writtens.Entry g) x h = other_fit config topo x (with_written a old (writtens.Entry g) x) refl refl refl refl h
 written_state_fit config topo a old (writtens.NotPrimary at) x h = acted_fit config topo _ x refl h
 
 written_fit : (config : Config) (topo : Topology) (w : World) (d : ℕ) (a : Alias) (s : CommandState) (o : Option Tablet) → AllFit config topo w.commands
@@ -278,7 +284,7 @@ told_fit config topo w d None all = all
 told_fit config topo w d (Some (replies.Begun command)) all = all
 told_fit config topo w d (Some (replies.Term term)) all = all
 told_fit config topo w d (Some (replies.Taken term by)) all = all
-told_fit config topo w d (Some (replies.Seen seen)) all = all
+told_fit config topo w d (Some (replies.Read read)) all = all
 told_fit config topo w d (Some (replies.Lost term)) all = all
 told_fit config topo w d (Some (replies.Stands a)) all = all
 told_fit config topo w d (Some (replies.Message k)) all = all
@@ -296,7 +302,7 @@ end_fit : (config : Config) (topo : Topology) (w : World) (d : ℕ) (o : Option 
 end_fit config topo w d None all = all
 end_fit config topo w d (Some s) all =
     changed_fit config topo w.commands d (λ x. record x { ended = true }) all
-    (λ x here h. other_fit config topo x (record x { ended = true }) refl refl refl refl refl h)
+    (λ x here h. other_fit config topo x (record x { ended = true }) refl refl refl refl h)
 
 -- ---- Begin
 
@@ -307,23 +313,27 @@ begun_writes config command a declared is = subst (λ (v : Command). names_decla
 begun_shows : (w : World) (command : Command) (a : Alias) → command ≡ commands.Show a → is_some (shown_by w command) ≡ true
 begun_shows w command a is = ap (λ (v : Command). is_some (shown_by w v)) is
 
-begun_fit : (config : Config) (w : World) (name : List ℕ) (command : Command) → names_declared config command ≡ true → TopoDeclared config w.topo
-    → CommandFits config w.topo (begun_state w name command)
-begun_fit config w name command declared topo = record {
+at_most : (n most : ℕ) → nat_le n most ≡ true → n ≤ most
+at_most n most h = grind (arith, nat_tests)
+
+begun_fit : (config : Config) (w : World) (name : List ℕ) (command : Command) → is_in_time command ≡ true → names_declared config command ≡ true
+    → TopoDeclared config w.topo → CommandFits config w.topo (begun_state w name command)
+begun_fit config w name command soon declared topo = record {
   within = λ t is. absurd (let none : ◌≡◌ {A = Option ℕ} None (Some t) = is in cc);
   reads = λ read. absurd (false≢true read);
   writes = λ a is. begun_writes config command a declared is;
   primary = topo.recorded;
   shows = λ a is. begun_shows w command a is;
+  in_time = at_most (timeout_of command) 86400000 soon;
 }
 
-begin_fit : (config : Config) (w : World) (name : List ℕ) (command : Command) → names_declared config command ≡ true → TopoDeclared config w.topo
-    → AllFit config w.topo w.commands → AllFit config w.topo (w.commands ++ begun_state w name command ∷ [])
-begin_fit config w name command declared topo all c x here = of_cases (numbered-push_cases w.commands (begun_state w name command) x c here)
+begin_fit : (config : Config) (w : World) (name : List ℕ) (command : Command) → is_in_time command ≡ true → names_declared config command ≡ true
+    → TopoDeclared config w.topo → AllFit config w.topo w.commands → AllFit config w.topo (w.commands ++ begun_state w name command ∷ [])
+begin_fit config w name command soon declared topo all c x here = of_cases (numbered-push_cases w.commands (begun_state w name command) x c here)
   where
     of_cases : (numbered w.commands c ≡ Some x) ⊎ ((c ≡ length w.commands + 1) × (begun_state w name command ≡ x)) → CommandFits config w.topo x
     of_cases (inl h) = all c x h
-    of_cases (inr h) = subst (λ (v : CommandState). CommandFits config w.topo v) h.1 (begun_fit config w name command declared topo)
+    of_cases (inr h) = subst (λ (v : CommandState). CommandFits config w.topo v) h.1 (begun_fit config w name command soon declared topo)
 
 -- ---- what leaves commands, the topology, the clock and the actors alone
 
@@ -383,7 +393,11 @@ pub commands_after : (config : Config) (w : World) (e : Event) → Met config w 
 commands_after config w e met topo all = of_event e met (all_moved config w.topo (after config w e).topo w.commands (topo_moves config w e) all)
   where
     of_event : (e : Event) → Met config w e → AllFit config (after config w e).topo w.commands → AllFit config (after config w e).topo (after config w e).commands
-    of_event (events.Begin name command) met moved = begin_fit config w name command (both_right _ (names_declared config command) met) topo all
+    of_event (events.Begin name command) met moved =
+        begin_fit config w name command
+        (both_right (is_none (open_of w.actors name)) (is_in_time command)
+        (both_left (is_none (open_of w.actors name) && is_in_time command) (names_declared config command) met))
+        (both_right _ (names_declared config command) met) topo all
     of_event (events.Take c) met moved = take_fit config w c (open_command w c) refl met moved
     of_event (events.Read c) met moved = read_fit config w c (term_of w c) refl all
     of_event (events.Intend c a) met moved = intend_fit config w c a (term_of w c) moved

@@ -1,5 +1,5 @@
 -- Courses played on the definitions by computation: each command does what it does next, and where it waits, the least message that can come comes.
-use Rattle.std.proofs.Common.{◌≡◌, ℕ, zero, suc, ◌+◌, Bool, true, ◌&&◌, refl, List, [], ◌∷◌, cond, Option, Some, None, is_some, is_none, option_map, codes}
+use Rattle.std.proofs.Common.{◌≡◌, ℕ, zero, suc, ◌+◌, Bool, true, false, ◌&&◌, refl, List, [], ◌∷◌, cond, Option, Some, None, is_some, is_none, option_map, codes}
 use Rattle.shard_names.specs.declared.alias.Alias.{Alias}
 use Rattle.shard_names.specs.declared.tablet.Tablet.{Tablet}
 use Rattle.shard_names.specs.declared.tablet.TabletType.TheVariants as types
@@ -9,13 +9,14 @@ use Rattle.gtid_sets.specs.Position.{nothing, of_gtids}
 use Rattle.durability.specs.declared.policy.Durability.{Durability}
 use Rattle.durability.specs.declared.policy.Durability.TheVariants as policies
 use Rattle.shard_calls.specs.declared.call.Call.TheVariants as calls
+use Rattle.shard_calls.specs.declared.command.Command.{Command}
 use Rattle.shard_calls.specs.declared.command.Command.TheVariants as commands
-use Rattle.shard_calls.specs.declared.command.CommandAnswer.TheVariants as answers
-use Rattle.shard_calls.specs.declared.command.NotJoined.{NotJoined}
-use Rattle.shard_calls.specs.declared.command.Left.TheVariants as lefts
-use Rattle.shard_calls.specs.declared.command.Bar.TheVariants as bars
-use Rattle.shard_calls.specs.declared.command.Refusal.TheVariants as refusals
-use Rattle.shard_calls.specs.declared.command.Unacked.TheVariants as unackeds
+use Rattle.shard_calls.specs.declared.ending.CommandAnswer.TheVariants as answers
+use Rattle.shard_calls.specs.declared.ending.NotJoined.{NotJoined}
+use Rattle.shard_calls.specs.declared.ending.Left.TheVariants as lefts
+use Rattle.shard_calls.specs.declared.refusal.Bar.TheVariants as bars
+use Rattle.shard_calls.specs.declared.refusal.Refusal.TheVariants as refusals
+use Rattle.shard_calls.specs.declared.refusal.Unacked.TheVariants as unackeds
 use Rattle.shard_calls.specs.declared.event.Event.{Event}
 use Rattle.shard_calls.specs.declared.event.Event.TheVariants as events
 use Rattle.shard_calls.specs.declared.event.Side.TheVariants as sides
@@ -90,8 +91,12 @@ three = record {
 abbrev commerce : ShardName
 commerce = record { keyspace = codes "commerce"; shard = codes "0" }
 
+-- a reparent to this tablet, with no other option
+abbrev planned_to : Alias → Command
+planned_to a = commands.Planned commerce (Some a) None None None false
+
 abbrev after_begin : Config → Alias → World
-after_begin config a = after config (opening config) (events.Begin main_name (commands.Planned commerce a))
+after_begin config a = after config (opening config) (events.Begin main_name (planned_to a))
 
 -- ---- a first reparent of three tablets
 
@@ -135,8 +140,8 @@ after_reparent = world_after_events replicas (after_begin replicas z100) events_
 -- ---- a second one finds the intent of the first
 
 second_played :
-    played replicas (after replicas after_reparent (events.Begin main_name (commands.Planned commerce z101))) 2 40
-    ≡ events.Take 2 ∷ events.Read 2 ∷ events.Release 2 ∷ events.End 2 (answers.Refused (refusals.NotBuilt 1)) ∷ []
+    played replicas (after replicas after_reparent (events.Begin main_name (planned_to z101))) 2 40
+    ≡ events.Take 2 ∷ events.Read 2 ∷ events.Release 2 ∷ events.End 2 (answers.Refused (refusals.NotBuilt 1) None) ∷ []
 second_played = refl
 
 -- ---- a tablet whose link is cut
@@ -152,7 +157,7 @@ cut_played :
     ∷ events.Send 1 z100 (calls.Promote nothing)
     ∷ events.GiveUp 1 1
     ∷ events.Release 1
-    ∷ events.End 1 (answers.Refused (refusals.Unreachable z100 whys.Cut))
+    ∷ events.End 1 (answers.Refused (refusals.Unreachable z100 whys.Cut) None)
     ∷ []
 cut_played = refl
 
@@ -210,25 +215,39 @@ two_given_up = refl
 -- ---- reparents that are refused at once
 
 undeclared_played :
-    played three (after_begin three (alias_of 109)) 1 40 ≡ events.End 1 (answers.Refused (refusals.NoSuchTablet (alias_of 109))) ∷ []
+    played three (after_begin three (alias_of 109)) 1 40 ≡ events.End 1 (answers.Refused (refusals.NoSuchTablet (alias_of 109)) None) ∷ []
 undeclared_played = refl
 
 spare_played :
-    played three (after_begin three (alias_of 103)) 1 40 ≡ events.End 1 (answers.Refused (refusals.NotEligible (alias_of 103) bars.MustNot)) ∷ []
+    played three (after_begin three (alias_of 103)) 1 40 ≡ events.End 1 (answers.Refused (refusals.NotEligible (alias_of 103) bars.MustNot) None) ∷ []
 spare_played = refl
+
+-- ---- commands that have no course yet
+
+abbrev begun_played : Command → List Event
+begun_played command = played replicas (after replicas (opening replicas) (events.Begin main_name command)) 1 40
+
+chosen_played : begun_played (commands.Planned commerce None None None None false) ≡ events.End 1 (answers.Refused refusals.OutOfMemory None) ∷ []
+chosen_played = refl
+
+avoided_played : begun_played (commands.Planned commerce (Some z100) (Some z101) None None false) ≡ events.End 1 (answers.Refused refusals.OutOfMemory None) ∷ []
+avoided_played = refl
+
+external_played : begun_played (commands.External z100) ≡ events.End 1 (answers.Refused refusals.OutOfMemory None) ∷ []
+external_played = refl
 
 -- ---- a lock that is held by another, and one that is lost
 
 abbrev after_taken : World
-after_taken = world_after_events replicas (after_begin replicas z100) (events.Take 1 ∷ events.Begin (codes "p") (commands.Planned commerce z101) ∷ [])
+after_taken = world_after_events replicas (after_begin replicas z100) (events.Take 1 ∷ events.Begin (codes "p") (planned_to z101) ∷ [])
 
-taken_played : played replicas after_taken 2 40 ≡ events.Take 2 ∷ events.End 2 (answers.Refused (refusals.LockTaken 1 main_name)) ∷ []
+taken_played : played replicas after_taken 2 40 ≡ events.Take 2 ∷ events.End 2 (answers.Refused (refusals.LockTaken 1 main_name) None) ∷ []
 taken_played = refl
 
 abbrev after_lapse : World
 after_lapse = world_after_events replicas (after_begin replicas z100) (events.Take 1 ∷ events.Read 1 ∷ events.Lapse ∷ [])
 
-lost_played : played replicas after_lapse 1 40 ≡ events.Intend 1 z100 ∷ events.Release 1 ∷ events.End 1 (answers.Refused (refusals.LockLost 1)) ∷ []
+lost_played : played replicas after_lapse 1 40 ≡ events.Intend 1 z100 ∷ events.Release 1 ∷ events.End 1 (answers.Refused (refusals.LockLost 1) None) ∷ []
 lost_played = refl
 
 -- ---- writes and shows
@@ -268,12 +287,29 @@ after_wait ms =
 
 late_played :
     played replicas (after_wait 15000) 1 40
-    ≡ events.GiveUp 1 1 ∷ events.Release 1 ∷ events.End 1 (answers.Refused (refusals.Unreachable z100 (whys.TimedOut start (start + 15000)))) ∷ []
+    ≡ events.GiveUp 1 1 ∷ events.Release 1 ∷ events.End 1 (answers.Refused (refusals.Unreachable z100 (whys.TimedOut start (start + 15000))) None) ∷ []
 late_played = refl
 
 -- a millisecond before, it waits
 in_time_played : played replicas (after_wait 14999) 1 3 ≡ events.Deliver 1 ∷ events.Deliver 2 ∷ events.Record 1 z100 ∷ []
 in_time_played = refl
+
+-- where a timeout is given, it waits for that
+abbrev after_short_wait : World
+after_short_wait =
+    world_after_events replicas (opening replicas)
+    (events.Begin main_name (commands.Planned commerce (Some z100) None None (Some 200) false)
+    ∷ events.Take 1
+    ∷ events.Read 1
+    ∷ events.Intend 1 z100
+    ∷ events.Send 1 z100 (calls.Promote nothing)
+    ∷ events.Tick 200
+    ∷ [])
+
+short_played :
+    played replicas after_short_wait 1 40
+    ≡ events.GiveUp 1 1 ∷ events.Release 1 ∷ events.End 1 (answers.Refused (refusals.Unreachable z100 (whys.TimedOut start (start + 200))) None) ∷ []
+short_played = refl
 
 -- ---- a tablet that comes up again, and is no primary any more
 
@@ -293,7 +329,7 @@ after_lost_answer =
 
 kept_played :
     played replicas after_lost_answer 1 40
-    ≡ events.Deliver 3 ∷ events.Release 1 ∷ events.End 1 (answers.Refused (refusals.NotAcknowledged z100 (unackeds.Kept standings.Stopped))) ∷ []
+    ≡ events.Deliver 3 ∷ events.Release 1 ∷ events.End 1 (answers.Refused (refusals.NotAcknowledged z100 (unackeds.Kept standings.Stopped)) None) ∷ []
 kept_played = refl
 
 abbrev after_restart : World
@@ -322,7 +358,7 @@ untold_played :
     ∷ events.Deliver 7
     ∷ events.Deliver 8
     ∷ events.Release 1
-    ∷ events.End 1 (answers.Refused (refusals.NotAcknowledged z100 (unackeds.Kept standings.Stopped)))
+    ∷ events.End 1 (answers.Refused (refusals.NotAcknowledged z100 (unackeds.Kept standings.Stopped)) None)
     ∷ []
 untold_played = refl
 
@@ -351,7 +387,7 @@ single_played = refl
 leaving_first : leaves after_lapse 1 ≡ events.Release 1
 leaving_first = refl
 
-leaving_then : leaves (after replicas after_lapse (events.Release 1)) 1 ≡ events.End 1 (answers.Refused refusals.OutOfMemory)
+leaving_then : leaves (after replicas after_lapse (events.Release 1)) 1 ≡ events.End 1 (answers.Refused refusals.OutOfMemory None)
 leaving_then = refl
 
 -- ---- acknowledgements under semi_sync
@@ -390,7 +426,7 @@ not_told_played :
     ≡ events.Deliver 7
     ∷ events.Deliver 8
     ∷ events.Release 1
-    ∷ events.End 1 (answers.Refused (refusals.NotAcknowledged z100 (unackeds.NotTold start (start + 16000))))
+    ∷ events.End 1 (answers.Refused (refusals.NotAcknowledged z100 (unackeds.NotTold start (start + 16000))) None)
     ∷ []
 not_told_played = refl
 

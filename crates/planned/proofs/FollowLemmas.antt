@@ -8,10 +8,10 @@ use Rattle.shard_names.specs.declared.tablet.Tablet.{Tablet}
 use Rattle.gtid_sets.specs.Position.{Position}
 use Rattle.shard_calls.specs.declared.command.Command.{Command}
 use Rattle.shard_calls.specs.declared.command.Command.TheVariants as commands
-use Rattle.shard_calls.specs.declared.command.CommandAnswer.{CommandAnswer}
-use Rattle.shard_calls.specs.declared.command.CommandAnswer.TheVariants as answers
-use Rattle.shard_calls.specs.declared.command.Refusal.{Refusal}
-use Rattle.shard_calls.specs.declared.command.Refusal.TheVariants as refusals
+use Rattle.shard_calls.specs.declared.ending.CommandAnswer.{CommandAnswer}
+use Rattle.shard_calls.specs.declared.ending.CommandAnswer.TheVariants as answers
+use Rattle.shard_calls.specs.declared.refusal.Refusal.{Refusal}
+use Rattle.shard_calls.specs.declared.refusal.Refusal.TheVariants as refusals
 use Rattle.shard_calls.specs.declared.event.Event.{Event}
 use Rattle.shard_calls.specs.declared.event.Event.TheVariants as events
 use Rattle.shard_calls.specs.declared.event.Reply.{Reply}
@@ -22,7 +22,7 @@ use Rattle.shard_calls.specs.declared.state.Shown.{Shown}
 use Rattle.shard_calls.specs.declared.state.Wrote.{Wrote}
 use Rattle.shard_calls.specs.Outcomes.{Outcome, Sending, sendings}
 use Rattle.shard_calls.specs.Evidence.{intends}
-use Rattle.shard_calls.specs.Causes.{is_promote, is_wait_told, says_recorded, is_told_act, has_command_cause}
+use Rattle.shard_calls.specs.Causes.{is_promote, is_wait_told, says_recorded, is_told_act}
 use Rattle.shard_calls.specs.Locks.{by_term}
 use Rattle.shard_calls.specs.Messages.{why_given_up}
 use Rattle.shard_calls.specs.Writes.{tell_of}
@@ -32,10 +32,10 @@ use Rattle.planned.specs.Leaving.{owes_release, leaving, unless_refused, first_b
 use Rattle.planned.specs.Calls.{called, next_to_ask, is_joining, is_out, give_up_of, give_ups, once_settled, refusal_after, position_given, left_out}
 use Rattle.planned.specs.Reparent.{refusal_of, refusal_by, told_next, asked_next, promoted_next, intended_next, is_read, taken_next, planned_next}
 use Rattle.planned.specs.Writing.{place_of_write, not_written, unwritten_next, is_gone, is_gone_act, untold_next, written_next, write_next, show_next}
-use Rattle.planned.specs.Course.{command_next, state_next, may, first_of, leaves, leaves_by}
+use Rattle.planned.specs.Course.{given_alone, reparent_next, command_next, state_next, may, first_of, leaves, leaves_by}
 use Rattle.planned.specs.Laws.{OfEveryWorld}
 use Rattle.planned.specs.Follows.{maker_of, IsOfCourse, Goes, Leaves, MayIsOwn, LeavingIsOwn, CourseIsMet, NextKeeps, LeavingKeeps, OthersKeep}
-use Rattle.planned.proofs.NextLemmas.{AllMet, leaving_met}
+use Rattle.planned.proofs.NextLemmas.{AllMet, leaving_met, free_cause}
 use Rattle.planned.proofs.ReachedLemmas.{may_is_met}
 
 -- ---- whose events they are
@@ -59,7 +59,7 @@ either_own c false xs ys here there = there
 
 unless_own : (c : ℕ) (s : CommandState) (o : Option Refusal) (rest : List Event) → AllOwn c rest → AllOwn c (unless_refused c s o rest)
 unless_own c s None rest h = h
-unless_own c s (Some r) rest h = leaves_own c s (answers.Refused r)
+unless_own c s (Some r) rest h = leaves_own c s (answers.Refused r None)
 
 given_up_own : (c k : ℕ) (b : Bool) (es : List Event) → AllOwn c es → AllOwn c (cons_option (only_if b (events.GiveUp c k)) es)
 given_up_own c k true es h = (refl, h)
@@ -158,10 +158,16 @@ show_own : (c : ℕ) (s : CommandState) (a : Alias) (o : Option Shown) → AllOw
 show_own c s a None = tt
 show_own c s a (Some x) = leaves_own c s _
 
+reparent_own : (config : Config) (w : World) (c : ℕ) (s : CommandState) (o : Option Alias) → AllOwn c (reparent_next config w c s o)
+reparent_own config w c s None = leaves_own c s (answers.Refused refusals.OutOfMemory None)
+reparent_own config w c s (Some a) = planned_own config w c s a
+
 command_own : (config : Config) (w : World) (c : ℕ) (s : CommandState) (command : Command) → AllOwn c (command_next config w c s command)
-command_own config w c s (commands.Planned shard a) = planned_own config w c s a
-command_own config w c s (commands.Write to) = write_own w c s (place_of_write to s.primary)
-command_own config w c s (commands.Show a) = show_own c s a s.shown
+command_own config w c s (commands.Planned shard new_primary avoid expected timeout allow_cross_cell) =
+    reparent_own config w c s (given_alone new_primary avoid expected)
+command_own config w c s (commands.External a) = leaves_own c s (answers.Refused refusals.OutOfMemory None)
+command_own config w c s (commands.Write to) = write_own w c s (place_of_write to s.opening.seen.recorded)
+command_own config w c s (commands.Show a) = show_own c s a s.opening.shown
 
 state_own : (config : Config) (w : World) (c : ℕ) (o : Option CommandState) → AllOwn c (state_next config w c o)
 state_own config w c None = tt
@@ -172,23 +178,17 @@ may_is_own config w c = state_own config w c (open_command w c)
 
 leaves_by_own : (c : ℕ) (o : Option CommandState) → maker_of (leaves_by c o) ≡ Some c
 leaves_by_own c None = refl
-leaves_by_own c (Some s) = leaving_own c s (answers.Refused refusals.OutOfMemory)
+leaves_by_own c (Some s) = leaving_own c s (answers.Refused refusals.OutOfMemory None)
 
 pub leaving_is_own : LeavingIsOwn
 leaving_is_own w c = leaves_by_own c (open_command w c)
 
 -- ---- that they are met
 
-free_cause : (config : Config) (w : World) (s : CommandState) (command : Command)
-    → has_command_cause config w s command (answers.Refused refusals.OutOfMemory) ≡ true
-free_cause config w s (commands.Planned shard a) = refl
-free_cause config w s (commands.Write to) = refl
-free_cause config w s (commands.Show a) = refl
-
 leaves_met : (config : Config) (w : World) (c : ℕ) (s : CommandState) → open_command w c ≡ Some s → Met config w (leaves w c)
 leaves_met config w c s found =
     subst (λ (o : Option CommandState). Met config w (leaves_by c o)) (sym found)
-    (leaving_met config w c s (answers.Refused refusals.OutOfMemory) found (free_cause config w s s.command)).0
+    (leaving_met config w c s (answers.Refused refusals.OutOfMemory None) found (free_cause config w s s.command)).0
 
 get_all : {A : Type 0} (P : A → Type 0) (xs : List A) (n : ℕ) (x : A) → AllByRecursion P xs → slice_get xs n ≡ Some x → P x
 get_all {A} P [] n x all h = absurd (let none : ◌≡◌ {A = Option A} None (Some x) = h in cc)

@@ -20,6 +20,7 @@ use Rattle.shard_calls.specs.declared.state.CommandState.{CommandState}
 use Rattle.shard_calls.specs.Deliveries.{asks_status}
 use Rattle.shard_calls.specs.Evidence.{is_first}
 use Rattle.shard_calls.specs.Locks.{by_term}
+use Rattle.shard_calls.specs.Messages.{timeout_of}
 use Rattle.shard_calls.specs.World.{Config, World, numbered}
 use Rattle.shard_calls.proofs.WorldLemmas.{IsSoundWorld}
 
@@ -31,6 +32,8 @@ answers_promote (says.Stopped newest p) = false
 answers_promote (says.Demoted newest p) = false
 answers_promote (says.Promoted p) = true
 answers_promote says.Joined = false
+answers_promote says.Feeding = false
+answers_promote says.Holds = false
 answers_promote says.Told = false
 answers_promote says.NotTold = false
 answers_promote (says.Kept stand) = true
@@ -46,6 +49,8 @@ answers_wait (says.Stopped newest p) = false
 answers_wait (says.Demoted newest p) = false
 answers_wait (says.Promoted p) = false
 answers_wait says.Joined = false
+answers_wait says.Feeding = false
+answers_wait says.Holds = false
 answers_wait says.Told = true
 answers_wait says.NotTold = true
 answers_wait (says.Kept stand) = true
@@ -62,6 +67,8 @@ may_answer calls.Stop x = true
 may_answer calls.Demote x = true
 may_answer (calls.Promote p) x = answers_promote x
 may_answer (calls.SetSource source t p) x = true
+may_answer calls.Feed x = true
+may_answer (calls.WaitFor p until) x = true
 may_answer (calls.WaitTold until) x = answers_wait x
 
 -- the call with this number came to its tablet, and may be answered so
@@ -124,7 +131,7 @@ CallsAreOwn post s = AllByRecursion (SendsOwn post s.term) s.acts
 abbrev pub found_none : Act → Bool
 found_none (acts.Taken term by) = false
 found_none (acts.Lost term) = false
-found_none (acts.Read seen) = is_none seen.last_intent
+found_none (acts.Read seen) = is_none seen.intent
 found_none (acts.Recorded a) = false
 found_none (acts.Sent k) = false
 found_none (acts.NotPrimary a at) = false
@@ -134,14 +141,15 @@ found_none acts.Gone = false
 abbrev pub RecordDeclared : Config → Option Record → Type 0
 RecordDeclared config o = (r : Record) → o ≡ Some r → is_declared config.tablets r.alias ≡ true
 
--- Its term is not above the topology's; where it read that there is no intent, none is of an earlier term than its own; and the tablets at which
--- it writes are declared.
+-- Its term is not above the topology's; where it read that there is no intent, none is of an earlier term than its own; the tablets at which it
+-- writes are declared; and it waits at most a day for an answer.
 pub record CommandFits (config : Config) (topo : Topology) (s : CommandState) : Type 0 where
   pub within : (t : ℕ) → s.term ≡ Some t → t ≤ topo.term
   pub reads : list_any found_none s.acts ≡ true → by_term s.term false (is_first topo) ≡ true
   pub writes : (a : Alias) → s.command ≡ commands.Write (Some a) → is_declared config.tablets a ≡ true
-  pub primary : RecordDeclared config s.primary
-  pub shows : (a : Alias) → s.command ≡ commands.Show a → is_some s.shown ≡ true
+  pub primary : RecordDeclared config s.opening.seen.recorded
+  pub shows : (a : Alias) → s.command ≡ commands.Show a → is_some s.opening.shown ≡ true
+  pub in_time : timeout_of s.command ≤ 86400000
 
 -- what is intended and recorded is declared
 pub record TopoDeclared (config : Config) (topo : Topology) : Type 0 where

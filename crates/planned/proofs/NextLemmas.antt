@@ -20,12 +20,12 @@ use Rattle.shard_calls.specs.declared.call.Call.{Call}
 use Rattle.shard_calls.specs.declared.call.Call.TheVariants as calls
 use Rattle.shard_calls.specs.declared.command.Command.{Command}
 use Rattle.shard_calls.specs.declared.command.Command.TheVariants as commands
-use Rattle.shard_calls.specs.declared.command.CommandAnswer.{CommandAnswer}
-use Rattle.shard_calls.specs.declared.command.CommandAnswer.TheVariants as answers
-use Rattle.shard_calls.specs.declared.command.Refusal.{Refusal}
-use Rattle.shard_calls.specs.declared.command.Refusal.TheVariants as refusals
-use Rattle.shard_calls.specs.declared.command.Bar.TheVariants as bars
-use Rattle.shard_calls.specs.declared.command.Unacked.TheVariants as unackeds
+use Rattle.shard_calls.specs.declared.ending.CommandAnswer.{CommandAnswer}
+use Rattle.shard_calls.specs.declared.ending.CommandAnswer.TheVariants as answers
+use Rattle.shard_calls.specs.declared.refusal.Refusal.{Refusal}
+use Rattle.shard_calls.specs.declared.refusal.Refusal.TheVariants as refusals
+use Rattle.shard_calls.specs.declared.refusal.Bar.TheVariants as bars
+use Rattle.shard_calls.specs.declared.refusal.Unacked.TheVariants as unackeds
 use Rattle.shard_calls.specs.declared.event.Event.{Event}
 use Rattle.shard_calls.specs.declared.event.Event.TheVariants as events
 use Rattle.shard_calls.specs.declared.state.Act.{Act}
@@ -92,24 +92,36 @@ pub leaving_met : (config : Config) (w : World) (c : ℕ) (s : CommandState) (x 
     → has_command_cause config w s s.command x ≡ true → AllMet config w (leaving c s x ∷ [])
 leaving_met config w c s x found cause = one_met config w (leaving c s x) (leaves_with config w c s x (owes_release s) refl found cause)
 
+-- want of memory needs no other cause
+pub free_cause : (config : Config) (w : World) (s : CommandState) (command : Command)
+    → has_command_cause config w s command (answers.Refused refusals.OutOfMemory None) ≡ true
+free_cause config w s (commands.Planned shard new_primary avoid expected timeout allow_cross_cell) = refl
+free_cause config w s (commands.External a) = refl
+free_cause config w s (commands.Write to) = refl
+free_cause config w s (commands.Show a) = refl
+
 -- ---- a reparent to tablet a
 
 pub record Goes (config : Config) (w : World) (c : ℕ) (s : CommandState) (a : Alias) : Type 0 where
   pub shard : ShardName
-  pub named : s.command ≡ commands.Planned shard a
+  pub avoid : Option Alias
+  pub expected : Option Alias
+  pub timeout : Option ℕ
+  pub allow_cross_cell : Bool
+  pub named : s.command ≡ commands.Planned shard (Some a) avoid expected timeout allow_cross_cell
   pub found : open_command w c ≡ Some s
 
 pub planned_cause : (config : Config) (w : World) (c : ℕ) (s : CommandState) (a : Alias) (x : CommandAnswer) → Goes config w c s a
-    → has_planned_cause config w a s x ≡ true → has_command_cause config w s s.command x ≡ true
+    → has_planned_cause config w (Some a) s x ≡ true → has_command_cause config w s s.command x ≡ true
 planned_cause config w c s a x g cause = ap (λ (v : Command). has_command_cause config w s v x) g.named ∙ cause
 
 -- a refusal has its cause, or it goes on
 pub unless_met : (config : Config) (w : World) (c : ℕ) (s : CommandState) (a : Alias) (o : Option Refusal) (rest : List Event) → Goes config w c s a
-    → ((r : Refusal) → o ≡ Some r → has_refusal_cause config a s.acts (sendings w.post s.acts) r ≡ true) → (o ≡ None → AllMet config w rest)
+    → ((r : Refusal) → o ≡ Some r → has_refusal_cause config (Some a) s.acts (sendings w.post s.acts) r ≡ true) → (o ≡ None → AllMet config w rest)
     → AllMet config w (unless_refused c s o rest)
 unless_met config w c s a None rest g cause on = on refl
 unless_met config w c s a (Some r) rest g cause on =
-    leaving_met config w c s (answers.Refused r) g.found (planned_cause config w c s a (answers.Refused r) g (cause r refl))
+    leaving_met config w c s (answers.Refused r None) g.found (planned_cause config w c s a (answers.Refused r None) g (cause r refl))
 
 pub once_met : (config : Config) (w : World) (c : ℕ) (s : CommandState) (o : Option Outcome) (rest : Outcome → List Event)
     → ((x : Outcome) → o ≡ Some x → AllMet config w (rest x)) → AllMet config w (once_settled w c s o rest)
@@ -125,16 +137,16 @@ no_refusal : (r : Refusal) → ◌≡◌ {A = Option Refusal} None (Some r) → 
 no_refusal r h = cc
 
 pub at_once : (config : Config) (a : Alias) (done : List Act) (sent : List Sending) (o : Option Tablet) (r : Refusal) → tablet_of config.tablets a ≡ o
-    → refusal_of config.policy a o ≡ Some r → has_refusal_cause config a done sent r ≡ true
+    → refusal_of config.policy a o ≡ Some r → has_refusal_cause config (Some a) done sent r ≡ true
 at_once config a done sent None r is h =
-    subst (λ (v : Refusal). has_refusal_cause config a done sent v ≡ true) (one_refusal (refusals.NoSuchTablet a) r h)
+    subst (λ (v : Refusal). has_refusal_cause config (Some a) done sent v ≡ true) (one_refusal (refusals.NoSuchTablet a) r h)
     (both (alias_eq a a) (not (is_declared config.tablets a)) (alias_eq_itself a) (ap (λ (o : Option Tablet). not (is_some o)) is))
 at_once config a done sent (Some t) r is h = of_test (is_eligible (rules_of config.policy) t) refl h
   where
-    of_test : (b : Bool) → is_eligible (rules_of config.policy) t ≡ b → cond b None (Some (refusals.NotEligible a bars.MustNot)) ≡ Some r → has_refusal_cause config a done sent r ≡ true
+    of_test : (b : Bool) → is_eligible (rules_of config.policy) t ≡ b → cond b None (Some (refusals.NotEligible a bars.MustNot)) ≡ Some r → has_refusal_cause config (Some a) done sent r ≡ true
     of_test true may k = absurd (no_refusal r k)
     of_test false may k =
-        subst (λ (v : Refusal). has_refusal_cause config a done sent v ≡ true) (one_refusal (refusals.NotEligible a bars.MustNot) r k)
+        subst (λ (v : Refusal). has_refusal_cause config (Some a) done sent v ≡ true) (one_refusal (refusals.NotEligible a bars.MustNot) r k)
         (both (alias_eq a a && is_declared config.tablets a) (not (is_eligible_alias config a))
         (both (alias_eq a a) (is_declared config.tablets a) (alias_eq_itself a) (ap (λ (o : Option Tablet). is_some o) is))
         (ap (λ (o : Option Tablet). not (may_be_promoted config.policy o)) is ∙ ap (λ (b : Bool). not b) may))
@@ -152,21 +164,21 @@ not_at_once config a (Some t) is h = of_test (is_eligible (rules_of config.polic
 -- ---- refusals by what it did
 
 by_intent : (config : Config) (a : Alias) (done : List Act) (sent : List Sending) (o : Option Intent) (r : Refusal) → refusal_by_intent o ≡ Some r
-    → ((t : ℕ) → is_of_term t o ≡ true → list_any (says_intent t) done ≡ true) → has_refusal_cause config a done sent r ≡ true
+    → ((t : ℕ) → is_of_term t o ≡ true → list_any (says_intent t) done ≡ true) → has_refusal_cause config (Some a) done sent r ≡ true
 by_intent config a done sent None r h among = absurd (no_refusal r h)
 by_intent config a done sent (Some i) r h among =
-    subst (λ (v : Refusal). has_refusal_cause config a done sent v ≡ true) (one_refusal (refusals.NotBuilt i.term) r h)
+    subst (λ (v : Refusal). has_refusal_cause config (Some a) done sent v ≡ true) (one_refusal (refusals.NotBuilt i.term) r h)
     (among i.term (number_itself i.term))
 
 by_act : (config : Config) (a : Alias) (done : List Act) (sent : List Sending) (act : Act) (r : Refusal) → refusal_by act ≡ Some r → IsAmong done act
-    → has_refusal_cause config a done sent r ≡ true
+    → has_refusal_cause config (Some a) done sent r ≡ true
 by_act config a done sent (acts.Taken term by) r h among =
-    subst (λ (v : Refusal). has_refusal_cause config a done sent v ≡ true) (one_refusal (refusals.LockTaken term by) r h)
+    subst (λ (v : Refusal). has_refusal_cause config (Some a) done sent v ≡ true) (one_refusal (refusals.LockTaken term by) r h)
     (among (says_taken term by) (both (term == term) (bytes_eq by by) (number_itself term) ((bytes_eq-Decides by by).1 refl)))
 by_act config a done sent (acts.Lost term) r h among =
-    subst (λ (v : Refusal). has_refusal_cause config a done sent v ≡ true) (one_refusal (refusals.LockLost term) r h) (among (says_lost term) (number_itself term))
+    subst (λ (v : Refusal). has_refusal_cause config (Some a) done sent v ≡ true) (one_refusal (refusals.LockLost term) r h) (among (says_lost term) (number_itself term))
 by_act config a done sent (acts.Read seen) r h among =
-    by_intent config a done sent seen.last_intent r h (λ t of_term. among (says_intent t) of_term)
+    by_intent config a done sent seen.intent r h (λ t of_term. among (says_intent t) of_term)
 by_act config a done sent (acts.Recorded b) r h among = absurd (no_refusal r h)
 by_act config a done sent (acts.Sent k) r h among = absurd (no_refusal r h)
 by_act config a done sent (acts.NotPrimary b at) r h among = absurd (no_refusal r h)
@@ -174,7 +186,7 @@ by_act config a done sent acts.Told r h among = absurd (no_refusal r h)
 by_act config a done sent acts.Gone r h among = absurd (no_refusal r h)
 
 pub by_acts : (config : Config) (a : Alias) (done : List Act) (sent : List Sending) (r : Refusal) → first_by refusal_by done ≡ Some r
-    → has_refusal_cause config a done sent r ≡ true
+    → has_refusal_cause config (Some a) done sent r ≡ true
 by_acts config a done sent r h = let f = first_found refusal_by done r h in by_act config a done sent f.one r f.gives f.among
 
 -- where nothing that it did refuses it, it read that there is no intent
@@ -185,7 +197,7 @@ none_of_intent (Some i) h = absurd (no_refusal (refusals.NotBuilt i.term) (sym h
 reads_none : (act : Act) → refusal_by act ≡ None → is_read act ≡ true → found_none act ≡ true
 reads_none (acts.Taken term by) h is = absurd (false≢true is)
 reads_none (acts.Lost term) h is = absurd (false≢true is)
-reads_none (acts.Read seen) h is = none_of_intent seen.last_intent h
+reads_none (acts.Read seen) h is = none_of_intent seen.intent h
 reads_none (acts.Recorded a) h is = absurd (false≢true is)
 reads_none (acts.Sent k) h is = absurd (false≢true is)
 reads_none (acts.NotPrimary a at) h is = absurd (false≢true is)
@@ -240,6 +252,8 @@ promote_alone calls.Stop missing needed may = absurd (false≢true needed)
 promote_alone calls.Demote missing needed may = absurd (false≢true needed)
 promote_alone (calls.Promote p) missing needed may = refl
 promote_alone (calls.SetSource source t p) missing needed may = absurd (false≢true needed)
+promote_alone calls.Feed missing needed may = absurd (false≢true needed)
+promote_alone (calls.WaitFor p until) missing needed may = absurd (false≢true needed)
 promote_alone (calls.WaitTold until) missing needed may = absurd (false≢true may)
 
 -- and only a WaitTold that its row is not told
@@ -249,6 +263,8 @@ wait_alone calls.Stop needed may = absurd (false≢true needed)
 wait_alone calls.Demote needed may = absurd (false≢true needed)
 wait_alone (calls.Promote p) needed may = absurd (false≢true may)
 wait_alone (calls.SetSource source t p) needed may = absurd (false≢true needed)
+wait_alone calls.Feed needed may = absurd (false≢true needed)
+wait_alone (calls.WaitFor p until) needed may = absurd (false≢true needed)
 wait_alone (calls.WaitTold until) needed may = refl
 
 given_moment : (o : Option ℕ) → is_some o ≡ true → is_some_of o (unwrap_or o 0) ≡ true
@@ -269,26 +285,28 @@ timed_here kind test answer a sent x n outcome is so =
     (number_itself x.sent)) (given_moment x.arrived (n.came answer outcome)))
 
 by_answer : (config : Config) (a : Alias) (done : List Act) (sent : List Sending) (x : Sending) (answer : Answer) (r : Refusal) → Needed a sent x
-    → x.outcome ≡ Some (Answered answer) → refusal_to x answer ≡ Some r → has_refusal_cause config a done sent r ≡ true
+    → x.outcome ≡ Some (Answered answer) → refusal_to x answer ≡ Some r → has_refusal_cause config (Some a) done sent r ≡ true
 by_answer config a done sent x (says.Status seen promised stand newest p) r n outcome h = absurd (no_refusal r h)
 by_answer config a done sent x (says.Stopped newest p) r n outcome h = absurd (no_refusal r h)
 by_answer config a done sent x (says.Demoted newest p) r n outcome h = absurd (no_refusal r h)
 by_answer config a done sent x (says.Promoted p) r n outcome h = absurd (no_refusal r h)
 by_answer config a done sent x says.Joined r n outcome h = absurd (no_refusal r h)
+by_answer config a done sent x says.Feeding r n outcome h = absurd (no_refusal r h)
+by_answer config a done sent x says.Holds r n outcome h = absurd (no_refusal r h)
 by_answer config a done sent x says.Told r n outcome h = absurd (no_refusal r h)
 by_answer config a done sent x says.NotTold r n outcome h =
-    subst (λ (v : Refusal). has_refusal_cause config a done sent v ≡ true)
+    subst (λ (v : Refusal). has_refusal_cause config (Some a) done sent v ≡ true)
     (one_refusal (refusals.NotAcknowledged x.to (unackeds.NotTold x.sent (unwrap_or x.arrived 0))) r h)
     (timed_here is_wait_told is_not_told says.NotTold a sent x n outcome (wait_alone x.call n.needed (n.fits says.NotTold outcome)) refl)
 by_answer config a done sent x (says.Kept stand) r n outcome h =
-    subst (λ (v : Refusal). has_refusal_cause config a done sent v ≡ true) (one_refusal (refusals.NotAcknowledged x.to (unackeds.Kept (standing_of stand))) r h)
+    subst (λ (v : Refusal). has_refusal_cause config (Some a) done sent v ≡ true) (one_refusal (refusals.NotAcknowledged x.to (unackeds.Kept (standing_of stand))) r h)
     (came_here is_needed (is_kept (standing_of stand)) sent x (Some (Answered (says.Kept stand))) n.among n.needed outcome (standing_itself (standing_of stand)))
 by_answer config a done sent x (says.StaleTerm seen) r n outcome h =
-    subst (λ (v : Refusal). has_refusal_cause config a done sent v ≡ true) (one_refusal (refusals.StaleTerm x.to seen) r h)
+    subst (λ (v : Refusal). has_refusal_cause config (Some a) done sent v ≡ true) (one_refusal (refusals.StaleTerm x.to seen) r h)
     (came_here is_needed (is_stale seen) sent x (Some (Answered (says.StaleTerm seen))) n.among n.needed outcome (number_itself seen))
 by_answer config a done sent x (says.PromisedAhead promised) r n outcome h = absurd (no_refusal r h)
 by_answer config a done sent x (says.NotCaughtUp missing) r n outcome h =
-    subst (λ (v : Refusal). has_refusal_cause config a done sent v ≡ true)
+    subst (λ (v : Refusal). has_refusal_cause config (Some a) done sent v ≡ true)
     (one_refusal (refusals.NotCaughtUp x.to missing x.sent (unwrap_or x.arrived 0)) r h)
     (timed_here is_promote (is_short_of missing) (says.NotCaughtUp missing) a sent x n outcome
     (promote_alone x.call missing n.needed (n.fits (says.NotCaughtUp missing) outcome)) (position_itself missing))
@@ -296,10 +314,10 @@ by_answer config a done sent x (says.Errant extra) r n outcome h = absurd (no_re
 by_answer config a done sent x (says.NotStanding newest) r n outcome h = absurd (no_refusal r h)
 
 pub by_outcome : (config : Config) (a : Alias) (done : List Act) (sent : List Sending) (x : Sending) (o : Outcome) (r : Refusal) → Needed a sent x
-    → x.outcome ≡ Some o → refusal_after x o ≡ Some r → has_refusal_cause config a done sent r ≡ true
+    → x.outcome ≡ Some o → refusal_after x o ≡ Some r → has_refusal_cause config (Some a) done sent r ≡ true
 by_outcome config a done sent x (Answered answer) r n outcome h = by_answer config a done sent x answer r n outcome h
 by_outcome config a done sent x (GivenUp why) r n outcome h =
-    subst (λ (v : Refusal). has_refusal_cause config a done sent v ≡ true) (one_refusal (refusals.Unreachable x.to why) r h)
+    subst (λ (v : Refusal). has_refusal_cause config (Some a) done sent v ≡ true) (one_refusal (refusals.Unreachable x.to why) r h)
     (came_here is_needed (is_given_up why) sent x (Some (GivenUp why)) n.among n.needed outcome (why_itself why))
 
 -- ---- calls that came to what they were made for
@@ -311,6 +329,8 @@ promoted_says x (says.Stopped newest q) h p may = absurd (false≢true may)
 promoted_says x (says.Demoted newest q) h p may = absurd (false≢true may)
 promoted_says x (says.Promoted q) h p may = refl
 promoted_says x says.Joined h p may = absurd (false≢true may)
+promoted_says x says.Feeding h p may = absurd (false≢true may)
+promoted_says x says.Holds h p may = absurd (false≢true may)
 promoted_says x says.Told h p may = absurd (false≢true may)
 promoted_says x says.NotTold h p may = absurd (false≢true may)
 promoted_says x (says.Kept stand) h p may = absurd (no_refusal (refusals.NotAcknowledged x.to (unackeds.Kept (standing_of stand))) (sym h))
@@ -327,6 +347,8 @@ told_says x (says.Stopped newest q) h until may = absurd (false≢true may)
 told_says x (says.Demoted newest q) h until may = absurd (false≢true may)
 told_says x (says.Promoted q) h until may = absurd (false≢true may)
 told_says x says.Joined h until may = absurd (false≢true may)
+told_says x says.Feeding h until may = absurd (false≢true may)
+told_says x says.Holds h until may = absurd (false≢true may)
 told_says x says.Told h until may = refl
 told_says x says.NotTold h until may = absurd (no_refusal (refusals.NotAcknowledged x.to (unackeds.NotTold x.sent (unwrap_or x.arrived 0))) (sym h))
 told_says x (says.Kept stand) h until may = absurd (no_refusal (refusals.NotAcknowledged x.to (unackeds.Kept (standing_of stand))) (sym h))
@@ -344,6 +366,8 @@ promote_came x calls.Demote o outcome is kind none fits = absurd (false≢true k
 promote_came x (calls.Promote p) (Answered answer) outcome is kind none fits = promoted_says x answer none p (fits answer outcome)
 promote_came x (calls.Promote p) (GivenUp why) outcome is kind none fits = absurd (no_refusal (refusals.Unreachable x.to why) (sym none))
 promote_came x (calls.SetSource source t p) o outcome is kind none fits = absurd (false≢true kind)
+promote_came x calls.Feed o outcome is kind none fits = absurd (false≢true kind)
+promote_came x (calls.WaitFor p until) o outcome is kind none fits = absurd (false≢true kind)
 promote_came x (calls.WaitTold until) o outcome is kind none fits = absurd (false≢true kind)
 
 pub wait_came : (x : Sending) (call : Call) (o : Outcome) → x.outcome ≡ Some o → x.call ≡ call → is_wait_told call ≡ true → refusal_after x o ≡ None
@@ -353,5 +377,7 @@ wait_came x calls.Stop o outcome is kind none fits = absurd (false≢true kind)
 wait_came x calls.Demote o outcome is kind none fits = absurd (false≢true kind)
 wait_came x (calls.Promote p) o outcome is kind none fits = absurd (false≢true kind)
 wait_came x (calls.SetSource source t p) o outcome is kind none fits = absurd (false≢true kind)
+wait_came x calls.Feed o outcome is kind none fits = absurd (false≢true kind)
+wait_came x (calls.WaitFor p until) o outcome is kind none fits = absurd (false≢true kind)
 wait_came x (calls.WaitTold until) (Answered answer) outcome is kind none fits = told_says x answer none until (fits answer outcome)
 wait_came x (calls.WaitTold until) (GivenUp why) outcome is kind none fits = absurd (no_refusal (refusals.Unreachable x.to why) (sym none))

@@ -6,7 +6,7 @@ use Rattle.shard_names.specs.Tablets.{tablet_of, is_declared}
 use Rattle.shard_names.proofs.TabletLemmas.{both_right}
 use Rattle.shard_names.specs.declared.alias.Alias.{Alias}
 use Rattle.shard_names.specs.declared.tablet.Tablet.{Tablet}
-use Rattle.topo_lock.specs.Topology.{Topology, is_held_in, last_intent, answer_take, answer_intend, answer_record}
+use Rattle.topo_lock.specs.Topology.{Topology, is_held_in, answer_take, answer_intend, answer_record}
 use Rattle.topo_lock.specs.declared.lock.LockTaken.{LockTaken}
 use Rattle.topo_lock.specs.declared.lock.TopoFault.{TopoFault}
 use Rattle.topo_lock.specs.declared.lock.TopoFault.TheVariants as faults
@@ -27,7 +27,7 @@ use Rattle.shard_calls.specs.Tablets.{TabletState}
 use Rattle.shard_calls.specs.World.{Config, World, numbered, changed_at, with_act, open_command, term_of}
 use Rattle.shard_calls.specs.Messages.{why_given_up, offer_to}
 use Rattle.shard_calls.specs.Begins.{begun_state, ends_by}
-use Rattle.shard_calls.specs.Locks.{took_nothing, with_taken, takes_by, by_term, read_act, reads, with_intended, intends_in, with_recorded, records_in, as_released, releases_in}
+use Rattle.shard_calls.specs.Locks.{seen_of, took_nothing, with_taken, takes_by, by_term, read_act, reads, with_intended, intends_in, with_recorded, records_in, as_released, releases_in}
 use Rattle.shard_calls.specs.Deliveries.{if_declared, may_ask_in, asks_status, may_send, call_of, asks}
 use Rattle.shard_calls.specs.Writes.{with_written, write_verdict, writes_at, writes_in, tell_of, tells}
 use Rattle.shard_calls.specs.Table.{Met, after}
@@ -113,8 +113,8 @@ take_own post w d (Some s) begun took all =
     h)
 
 read_act_own : (post : List Message) (topo : Topology) (x : CommandState) (held : Bool) → CallsAreOwn post x
-    → CallsAreOwn post (with_act (cond held (acts.Read (record { recorded = topo.recorded; last_intent = last_intent topo })) (acts.Lost topo.term)) x)
-read_act_own post topo x true h = acted_own post (acts.Read (record { recorded = topo.recorded; last_intent = last_intent topo })) x tt h
+    → CallsAreOwn post (with_act (cond held (acts.Read (seen_of topo)) (acts.Lost topo.term)) x)
+read_act_own post topo x true h = acted_own post (acts.Read (seen_of topo)) x tt h
 read_act_own post topo x false h = acted_own post (acts.Lost topo.term) x tt h
 
 read_own : (post : List Message) (w : World) (d : ℕ) (o : Option ℕ) → AllOwn post w.commands → AllOwn post (by_term o w (reads w d)).commands
@@ -210,7 +210,7 @@ told_own post w d None all = all
 told_own post w d (Some (replies.Begun command)) all = all
 told_own post w d (Some (replies.Term term)) all = all
 told_own post w d (Some (replies.Taken term by)) all = all
-told_own post w d (Some (replies.Seen seen)) all = all
+told_own post w d (Some (replies.Read read)) all = all
 told_own post w d (Some (replies.Lost term)) all = all
 told_own post w d (Some (replies.Stands a)) all = all
 told_own post w d (Some (replies.Message k)) all = all

@@ -10,7 +10,7 @@ use Rattle.shard_calls.specs.declared.call.Call.{Call}
 use Rattle.shard_calls.specs.declared.call.Call.TheVariants as calls
 use Rattle.shard_calls.specs.declared.command.Command.{Command}
 use Rattle.shard_calls.specs.declared.command.Command.TheVariants as commands
-use Rattle.shard_calls.specs.declared.command.CommandAnswer.TheVariants as answers
+use Rattle.shard_calls.specs.declared.ending.CommandAnswer.TheVariants as answers
 use Rattle.shard_calls.specs.declared.event.Event.{Event}
 use Rattle.shard_calls.specs.declared.event.Event.TheVariants as events
 use Rattle.shard_calls.specs.declared.event.Step.{Step}
@@ -31,7 +31,7 @@ use Rattle.shard_calls.specs.Stands.{is_down}
 use Rattle.shard_calls.specs.World.{Config, numbered, open_command}
 use Rattle.shard_state.specs.State.{Data, state_at, world_seen, seen}
 use Rattle.planned.specs.Calls.{called, next_to_ask, is_joining, is_out, give_up_of, give_ups, once_settled, refusal_after, position_given, left_out}
-use Rattle.planned.specs.Course.{first_of, command_next, state_next, next}
+use Rattle.planned.specs.Course.{first_of, given_alone, reparent_next, command_next, state_next, next}
 use Rattle.planned.specs.Leaving.{leaving, unless_refused, first_by}
 use Rattle.planned.specs.Reparent.{refusal_of, refusal_by, is_read, told_next, joined_next, asked_next, promoted_next, intended_next, read_next, taken_next, planned_next}
 use Rattle.planned.specs.Writing.{place_of_write, written_next, write_next}
@@ -44,6 +44,8 @@ ready_past d ss a u calls.Stop = refl
 ready_past d ss a u calls.Demote = refl
 ready_past d ss a u (calls.Promote p) = refl
 ready_past d ss a u (calls.SetSource source t p) = refl
+ready_past d ss a u calls.Feed = refl
+ready_past d ss a u (calls.WaitFor p until) = refl
 ready_past d ss a u (calls.WaitTold until) = refl
 
 received_past : (d : Data) (ss : List Step) (k : Content) → is_received (world_seen d ss) k ≡ is_received (seen d) k
@@ -147,10 +149,17 @@ write_past d ss c s (Some a) = written_past d ss c s a s.wrote
 
 -- ---- any command
 
+reparent_past : (config : Config) (d : Data) (ss : List Step) (c : ℕ) (s : CommandState) (o : Option Alias)
+    → reparent_next config (world_seen d ss) c s o ≡ reparent_next config (seen d) c s o
+reparent_past config d ss c s None = refl
+reparent_past config d ss c s (Some a) = planned_past config d ss c s a
+
 command_past : (config : Config) (d : Data) (ss : List Step) (c : ℕ) (s : CommandState) (command : Command)
     → command_next config (world_seen d ss) c s command ≡ command_next config (seen d) c s command
-command_past config d ss c s (commands.Planned shard a) = planned_past config d ss c s a
-command_past config d ss c s (commands.Write to) = write_past d ss c s (place_of_write to s.primary)
+command_past config d ss c s (commands.Planned shard new_primary avoid expected timeout allow_cross_cell) =
+    reparent_past config d ss c s (given_alone new_primary avoid expected)
+command_past config d ss c s (commands.External a) = refl
+command_past config d ss c s (commands.Write to) = write_past d ss c s (place_of_write to s.opening.seen.recorded)
 command_past config d ss c s (commands.Show a) = refl
 
 state_past : (config : Config) (d : Data) (ss : List Step) (c : ℕ) (o : Option CommandState)

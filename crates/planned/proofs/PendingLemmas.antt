@@ -1,5 +1,5 @@
 -- Actors and their commands fit each other after every run.
-use Rattle.std.proofs.Common.{◌≡◌, ◌⊎◌, inl, inr, ℕ, zero, suc, ◌<◌, List, [], ◌∷◌, Bool, true, false, not, Option, Some, None, cond, is_none, refl, ap, sym, ◌∙◌}
+use Rattle.std.proofs.Common.{◌≡◌, ◌⊎◌, inl, inr, ℕ, zero, suc, ◌<◌, List, [], ◌∷◌, Bool, true, false, not, Option, Some, None, cond, ◌&&◌, is_none, refl, ap, sym, ◌∙◌}
 use Rattle.std.proofs.lemmas.Bool.{false≢true, cases_order}
 use Rattle.std.specs.List.{slice_get}
 use Rattle.shard_base.specs.Options.{◌>>=◌}
@@ -9,7 +9,7 @@ use Rattle.shard_calls.specs.declared.event.Step.{Step}
 use Rattle.shard_calls.specs.declared.state.ActorState.{ActorState}
 use Rattle.shard_calls.specs.declared.state.CommandState.{CommandState}
 use Rattle.shard_calls.specs.World.{Config, World, opening, idle_actor, main_name, numbered, place_of, open_at, open_of, if_open, open_command, term_of}
-use Rattle.shard_calls.specs.Begins.{names_declared}
+use Rattle.shard_calls.specs.Begins.{is_in_time, names_declared}
 use Rattle.shard_calls.specs.Messages.{why_given_up, offer_to}
 use Rattle.shard_calls.specs.Writes.{tell_of, told_act}
 use Rattle.shard_calls.specs.Table.{Met, after, world_after, IsRunFrom}
@@ -26,7 +26,9 @@ use Rattle.planned.proofs.EndLemmas.{open_runs, same_state, ends_match}
 
 match_on : (config : Config) (w : World) (e : Event) → Met config w e → Match w.actors w.commands → Match (after config w e).actors (after config w e).commands
 match_on config w (events.Begin name command) met h =
-    begin_match w name command (both_left (is_none (open_of w.actors name)) (names_declared config command) met) h
+    begin_match w name command
+    (both_left (is_none (open_of w.actors name)) (is_in_time command)
+    (both_left (is_none (open_of w.actors name) && is_in_time command) (names_declared config command) met)) h
 match_on config w (events.Take c) met h = take_match w c (open_command w c) h
 match_on config w (events.Read c) met h = read_match w c (term_of w c) h
 match_on config w (events.Intend c a) met h = intend_match w c a (term_of w c) h
@@ -104,15 +106,16 @@ open_is_pending w h c s found =
     pends w.actors w.commands c s h (open_numbered (numbered w.commands c) s found) (open_runs (numbered w.commands c) s found)
 
 free_begins : (config : Config) (w : World) → PendingIsOpen w → FreeMayBegin config w
-free_begins config w h name command declared free =
-    both (is_none (open_of w.actors name)) (names_declared config command) (of_option (open_of w.actors name) refl) declared
+free_begins config w h name command soon declared free =
+    both (is_none (open_of w.actors name) && is_in_time command) (names_declared config command)
+    (both (is_none (open_of w.actors name)) (is_in_time command) (of_option (open_of w.actors name) refl) soon) declared
   where
     of_option : (o : Option ℕ) → open_of w.actors name ≡ o → is_none o ≡ true
     of_option None is = refl
     of_option (Some c) is = let s = h name c is in absurd (free c s.0 s.1 s.2)
 
 ended_begins : (config : Config) (w : World) → Match w.actors w.commands → EndedMayBegin config w
-ended_begins config w h c s command declared here ended last = free_begins config w (pending_is_open w h) s.actor command declared none
+ended_begins config w h c s command soon declared here ended last = free_begins config w (pending_is_open w h) s.actor command soon declared none
   where
     by_order : (d : ℕ) (x : CommandState) → numbered w.commands d ≡ Some x → x.ended ≡ false → x.actor ≡ s.actor → (c ≡ d) ⊎ ((c < d) ⊎ (d < c)) → ⊥
     by_order d x there runs whose (inl k) =

@@ -25,7 +25,7 @@ use Rattle.shard_calls.specs.declared.state.Act.{Act}
 use Rattle.shard_calls.specs.declared.state.CommandState.{CommandState}
 use Rattle.shard_calls.specs.declared.why.Why.{Why}
 use Rattle.shard_calls.specs.Stands.{is_primary_of}
-use Rattle.shard_calls.specs.Logs.{has_row, position_of}
+use Rattle.gtid_sets.specs.Logs.{has_row, position_of}
 use Rattle.shard_calls.specs.Groups.{Group}
 use Rattle.shard_calls.specs.Tablets.{TabletState, Verdict, answer_to, is_row_told, promotes, waits_told}
 use Rattle.shard_calls.specs.World.{Config, World, numbered, changed, changed_at, on_message, arrives, vanishes, settles, open_command, term_of}
@@ -60,6 +60,8 @@ answer_fits g me u (calls.Promote p) s =
     (either_answer (λ x. answers_promote x ≡ true) (is_primary_of s.stand u) (says.Promoted (position_of s.log)) (says.Kept s.stand) refl refl)
     (either_holds (λ v. answers_promote v.says ≡ true) (covers (position_of s.log) p) _ _ refl refl))
 answer_fits g me u (calls.SetSource source t p) s = refl
+answer_fits g me u calls.Feed s = refl
+answer_fits g me u (calls.WaitFor p until) s = refl
 answer_fits g me u (calls.WaitTold until) s =
     let seen : TabletState = record s { seen = u } in
     either_holds (λ v. answers_wait v.says ≡ true) (nat_lt u s.seen) (record { state = s; says = says.StaleTerm s.seen }) (waits_told g me u seen) refl
@@ -300,6 +302,7 @@ offered_feeds w r stands.Down content c k a x h is = no_content content h
 offered_feeds w r stands.Stopped content c k a x h is = no_content content h
 offered_feeds w r (stands.Primary t) content c k a x h is = no_content content h
 offered_feeds w r (stands.Demoted t by) content c k a x h is = no_content content h
+offered_feeds w r (stands.Feeder t) content c k a x h is = no_content content h
 offered_feeds w r (stands.Replica s t n) content c k a x h is = of_test (may_feed w s r t n) h
   where
     of_test : (b : Bool) → (only_if b n >>= (λ m. needed (w.tablets s) (w.tablets r) m >>= (λ y. Some (feed_of s r t n y)))) ≡ Some content → ⊥

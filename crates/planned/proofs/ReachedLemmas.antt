@@ -28,9 +28,10 @@ use Rattle.shard_calls.specs.Deliveries.{if_declared}
 use Rattle.shard_calls.specs.Table.{Met, after, world_after, IsRunFrom}
 use Rattle.shard_calls.proofs.StepLemmas.{sound_after}
 use Rattle.planned.specs.Course.{first_of, may}
-use Rattle.planned.specs.Laws.{BeginsInTime, OfEveryWorld, MayIsMet, NextIsMet, NoneBlocks}
+use Rattle.planned.specs.Laws.{BeginsInTime, OfEveryWorld, AllWaitInTime, MayIsMet, NextIsMet, NoneBlocks}
 use Rattle.planned.proofs.KnownLemmas.{RecordDeclared, TopoDeclared, IsReached}
 use Rattle.planned.proofs.NextLemmas.{AllMet}
+use Rattle.planned.proofs.ReparentLemmas.{waits_in_time}
 use Rattle.planned.proofs.WritingLemmas.{may_met}
 use Rattle.planned.proofs.WaitLemmas.{none_blocks_at}
 use Rattle.planned.proofs.PostFitLemmas.{answers_after}
@@ -243,6 +244,9 @@ pub reached : OfEveryWorld IsReached
 reached config steps time run = reached_from config (opening config) steps run (at_first config time)
 
 -- ---- the laws
+
+pub all_wait_in_time : OfEveryWorld AllWaitInTime
+all_wait_in_time config steps time run c = waits_in_time config _ c (reached config steps time run)
 
 pub may_is_met : OfEveryWorld MayIsMet
 may_is_met config steps time run c = may_met config _ c (reached config steps time run)

@@ -1,5 +1,5 @@
 -- That whatever a reparent may do next meets its row's condition, point by point.
-use Rattle.std.proofs.Common.{◌≡◌, ℕ, ◌+◌, List, [], ◌∷◌, Bool, true, false, not, Option, Some, None, cond, ◌&&◌, ◌||◌, ◌==◌, nat_lt, nat_le, is_none, is_some, refl, ap, sym, subst, ◌∙◌, arith}
+use Rattle.std.proofs.Common.{◌≡◌, ℕ, ◌+◌, List, [], ◌∷◌, Bool, true, false, not, Option, Some, None, cond, ◌&&◌, ◌||◌, ◌==◌, nat_le, is_none, is_some, refl, ap, sym, subst, ◌∙◌, arith}
 use Rattle.std.proofs.lemmas.Bool.{false≢true}
 use Rattle.std.proofs.lemmas.Bool.Decides.{nat_tests, Decides-eqb, Decides-ltb}
 use Rattle.std.specs.List.{list_any}
@@ -16,8 +16,7 @@ use Rattle.topo_lock.proofs.IntentLemmas.{find_last}
 use Rattle.topo_lock.proofs.MoveLemmas.{intents_are_in_order}
 use Rattle.shard_calls.specs.declared.call.Call.{Call}
 use Rattle.shard_calls.specs.declared.call.Call.TheVariants as calls
-use Rattle.shard_calls.specs.declared.command.Command.{Command}
-use Rattle.shard_calls.specs.declared.command.CommandAnswer.TheVariants as answers
+use Rattle.shard_calls.specs.declared.ending.CommandAnswer.TheVariants as answers
 use Rattle.shard_calls.specs.declared.event.Event.TheVariants as events
 use Rattle.shard_calls.specs.declared.state.CommandState.{CommandState}
 use Rattle.shard_calls.specs.Outcomes.{Sending, sendings}
@@ -29,6 +28,7 @@ use Rattle.shard_calls.specs.Messages.{timeout_of}
 use Rattle.shard_calls.specs.World.{Config, World, numbered, if_open, open_command, term_of, is_eligible_alias}
 use Rattle.shard_calls.specs.Table.{meets}
 use Rattle.planned.specs.Leaving.{leaving, unless_refused, first_by}
+use Rattle.planned.specs.Course.{WaitsInTime}
 use Rattle.planned.specs.Calls.{is_call_to, called, is_unasked, next_to_ask, is_joining, give_ups, refusal_after, position_given, left_out}
 use Rattle.planned.specs.Reparent.{refusal_of, refusal_by, told_next, joined_next, asked_next, promoted_next, intended_next, is_read, taken_next, planned_next}
 use Rattle.planned.proofs.TestLemmas.{number_itself, or_second, left_out_leaves, Found, found_among, found_all, any_found}
@@ -67,6 +67,8 @@ promote_needed calls.Stop h = absurd (false≢true h)
 promote_needed calls.Demote h = absurd (false≢true h)
 promote_needed (calls.Promote p) h = refl
 promote_needed (calls.SetSource source t p) h = absurd (false≢true h)
+promote_needed calls.Feed h = absurd (false≢true h)
+promote_needed (calls.WaitFor p until) h = absurd (false≢true h)
 promote_needed (calls.WaitTold until) h = absurd (false≢true h)
 
 wait_needed : (call : Call) → is_wait_told call ≡ true → is_needed call ≡ true
@@ -88,6 +90,8 @@ needs_term calls.Stop h = refl
 needs_term calls.Demote h = refl
 needs_term (calls.Promote p) h = refl
 needs_term (calls.SetSource source t p) h = refl
+needs_term calls.Feed h = refl
+needs_term (calls.WaitFor p until) h = refl
 needs_term (calls.WaitTold until) h = refl
 
 one_term : (t u : ℕ) → ◌≡◌ {A = Option ℕ} (Some t) (Some u) → t ≡ u
@@ -113,12 +117,16 @@ pub record Promoted (config : Config) (w : World) (c : ℕ) (s : CommandState) (
   pub intended : intends w.topo t a ≡ true
   pub promoted : came_to_in t is_promote a is_promoted (sendings w.post s.acts) ≡ true
 
-in_time : (config : Config) (w : World) (command : Command) → IsReached config w → nat_lt (w.clock + timeout_of command) end_of_time ≡ true
-in_time config w command known = let clock = known.clock in (Decides-ltb (w.clock + timeout_of command) end_of_time).1 (omega (arith, clock))
+-- an open command waits until a moment before the year 10000
+pub waits_in_time : (config : Config) (w : World) (c : ℕ) → IsReached config w → WaitsInTime w c
+waits_in_time config w c known s found =
+    let clock = known.clock in
+    let timeout = (known.commands c s (open_numbered (numbered w.commands c) s found)).in_time in
+    omega (arith, clock, timeout)
 
 promoted_cause : (config : Config) (w : World) (c : ℕ) (s : CommandState) (a : Alias) (t : ℕ) → Promoted config w c s a t
     → list_any (says_recorded a) s.acts ≡ true → came_to_in t is_wait_told a is_told_so (sendings w.post s.acts) ≡ true
-    → has_planned_cause config w a s (answers.Promoted a t (left_out w.post a s.acts)) ≡ true
+    → has_planned_cause config w (Some a) s (answers.Promoted a t (left_out w.post a s.acts)) ≡ true
 promoted_cause config w c s a t p recorded told =
     both
     (is_some_of s.term t && came_to_in t is_promote a is_promoted (sendings w.post s.acts) && came_to_in t is_wait_told a is_told_so (sendings w.post s.acts))
@@ -132,7 +140,8 @@ told_met : (config : Config) (w : World) (c : ℕ) (s : CommandState) (a : Alias
     → list_any (says_recorded a) s.acts ≡ true → called is_wait_told a (sendings w.post s.acts) ≡ o → AllMet config w (told_next w c s a t o)
 told_met config w c s a t None p recorded is =
     one_met config w (events.Send c a (calls.WaitTold (w.clock + timeout_of s.command)))
-    (send_met config w c s a (calls.WaitTold (w.clock + timeout_of s.command)) t p.goes.found p.term p.declared (in_time config w s.command p.known))
+    (send_met config w c s a (calls.WaitTold (w.clock + timeout_of s.command)) t p.goes.found p.term p.declared
+    ((Decides-ltb (w.clock + timeout_of s.command) end_of_time).1 (waits_in_time config w c p.known s p.goes.found)))
 told_met config w c s a t (Some x) p recorded is =
     let n : Needed a (sendings w.post s.acts) x = found_needed config w s a is_wait_told x p.known wait_needed is in
     let kind : is_wait_told x.call ≡ true = found_kind a is_wait_told (sendings w.post s.acts) x is in

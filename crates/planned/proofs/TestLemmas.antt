@@ -8,9 +8,9 @@ use Rattle.shard_names.proofs.TabletLemmas.{both, alias_eq_itself}
 use Rattle.shard_names.specs.declared.alias.Alias.{Alias}
 use Rattle.gtid_sets.specs.Position.{Position, covers}
 use Rattle.gtid_sets.proofs.PositionLemmas.{covers-itself}
-use Rattle.shard_calls.specs.declared.command.Left.{Left}
-use Rattle.shard_calls.specs.declared.command.Left.TheVariants as lefts
-use Rattle.shard_calls.specs.declared.command.NotJoined.{NotJoined}
+use Rattle.shard_calls.specs.declared.ending.Left.{Left}
+use Rattle.shard_calls.specs.declared.ending.Left.TheVariants as lefts
+use Rattle.shard_calls.specs.declared.ending.NotJoined.{NotJoined}
 use Rattle.shard_calls.specs.declared.post.Message.{Message}
 use Rattle.shard_calls.specs.declared.stand.Standing.{Standing}
 use Rattle.shard_calls.specs.declared.stand.Standing.TheVariants as standings
@@ -42,6 +42,7 @@ standing_itself standings.Stopped = refl
 standing_itself (standings.Primary t) = number_itself t
 standing_itself (standings.Demoted t by) = both (t == t) (by == by) (number_itself t) (number_itself by)
 standing_itself (standings.Replica a t) = both (alias_eq a a) (t == t) (alias_eq_itself a) (number_itself t)
+standing_itself (standings.Feeder t) = number_itself t
 
 left_itself : (x : Left) → left_eq x x ≡ true
 left_itself (lefts.Errant p) = position_itself p

@@ -10,9 +10,10 @@ use Rattle.gtid_sets.specs.Position.{Position, nothing}
 use Rattle.shard_calls.specs.declared.call.Call.TheVariants as calls
 use Rattle.shard_calls.specs.declared.command.Command.{Command}
 use Rattle.shard_calls.specs.declared.command.Command.TheVariants as commands
-use Rattle.shard_calls.specs.declared.command.CommandAnswer.{CommandAnswer}
-use Rattle.shard_calls.specs.declared.command.CommandAnswer.TheVariants as answers
-use Rattle.shard_calls.specs.declared.command.Refusal.{Refusal}
+use Rattle.shard_calls.specs.declared.ending.CommandAnswer.{CommandAnswer}
+use Rattle.shard_calls.specs.declared.ending.CommandAnswer.TheVariants as answers
+use Rattle.shard_calls.specs.declared.refusal.Refusal.{Refusal}
+use Rattle.shard_calls.specs.declared.refusal.Refusal.TheVariants as refusals
 use Rattle.shard_calls.specs.declared.event.Event.{Event}
 use Rattle.shard_calls.specs.declared.event.Event.TheVariants as events
 use Rattle.shard_calls.specs.declared.event.Reply.{Reply}
@@ -30,7 +31,7 @@ use Rattle.planned.specs.Leaving.{leaving, refusing, unless_refused, first_by}
 use Rattle.planned.specs.Calls.{called, is_call_to, next_to_ask, is_joining, give_ups, once_settled, refusal_after, position_given, left_out}
 use Rattle.planned.specs.Reparent.{refusal_of, refusal_by, told_next, joined_next, asked_next, promoted_next, intended_next, is_read, taken_next, planned_next}
 use Rattle.planned.specs.Writing.{place_of_write, not_written, unwritten_next, is_gone, is_gone_act, untold_next, written_next, write_next, show_next}
-use Rattle.planned.specs.Course.{command_next, state_next, may}
+use Rattle.planned.specs.Course.{given_alone, reparent_next, command_next, state_next, may}
 use Rattle.planned.specs.Laws.{is_unsettled, Waits, ForCall, ToBeTold}
 use Rattle.planned.proofs.TestLemmas.{or_first, or_second, IsAmong, found_among}
 use Rattle.planned.proofs.KnownLemmas.{IsReached}
@@ -166,12 +167,18 @@ show_waits : {P : Type 0} (c : ℕ) (s : CommandState) (a : Alias) (o : Option S
 show_waits c s a None some h = absurd (false≢true some)
 show_waits c s a (Some x) some h = one_goes _ h
 
+reparent_waits : (config : Config) (w : World) (c : ℕ) (s : CommandState) (o : Option Alias) → reparent_next config w c s o ≡ [] → Waits w c s
+reparent_waits config w c s None h = one_goes (refusing c s refusals.OutOfMemory) h
+reparent_waits config w c s (Some a) h = ForCall (planned_waits config w c s a h)
+
 command_waits : (config : Config) (w : World) (c : ℕ) (s : CommandState) (command : Command) → s.command ≡ command → open_command w c ≡ Some s → IsReached config w
     → command_next config w c s command ≡ [] → Waits w c s
-command_waits config w c s (commands.Planned shard a) named found known h = ForCall (planned_waits config w c s a h)
-command_waits config w c s (commands.Write to) named found known h = write_waits w c s (place_of_write to s.primary) h
+command_waits config w c s (commands.Planned shard new_primary avoid expected timeout allow_cross_cell) named found known h =
+    reparent_waits config w c s (given_alone new_primary avoid expected) h
+command_waits config w c s (commands.External a) named found known h = one_goes (refusing c s refusals.OutOfMemory) h
+command_waits config w c s (commands.Write to) named found known h = write_waits w c s (place_of_write to s.opening.seen.recorded) h
 command_waits config w c s (commands.Show a) named found known h =
-    show_waits c s a s.shown ((known.commands c s (open_numbered (numbered w.commands c) s found)).shows a named) h
+    show_waits c s a s.opening.shown ((known.commands c s (open_numbered (numbered w.commands c) s found)).shows a named) h
 
 pub none_blocks_at : (config : Config) (w : World) (c : ℕ) (s : CommandState) → IsReached config w → open_command w c ≡ Some s → may config w c ≡ [] → Waits w c s
 none_blocks_at config w c s known found h =

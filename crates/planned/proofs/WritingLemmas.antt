@@ -11,8 +11,9 @@ use Rattle.gtid_sets.proofs.GtidLemmas.{gtid_eq_itself}
 use Rattle.topo_lock.specs.declared.intent.Record.{Record}
 use Rattle.shard_calls.specs.declared.command.Command.{Command}
 use Rattle.shard_calls.specs.declared.command.Command.TheVariants as commands
-use Rattle.shard_calls.specs.declared.command.CommandAnswer.{CommandAnswer}
-use Rattle.shard_calls.specs.declared.command.CommandAnswer.TheVariants as answers
+use Rattle.shard_calls.specs.declared.ending.CommandAnswer.{CommandAnswer}
+use Rattle.shard_calls.specs.declared.ending.CommandAnswer.TheVariants as answers
+use Rattle.shard_calls.specs.declared.refusal.Refusal.TheVariants as refusals
 use Rattle.shard_calls.specs.declared.event.Event.TheVariants as events
 use Rattle.shard_calls.specs.declared.event.Reply.{Reply}
 use Rattle.shard_calls.specs.declared.event.Reply.TheVariants as replies
@@ -28,10 +29,10 @@ use Rattle.shard_calls.specs.Writes.{is_write, may_write, tell_reply, tell_of}
 use Rattle.shard_calls.specs.World.{Config, World, numbered, open_command}
 use Rattle.planned.specs.Leaving.{leaving, first_by}
 use Rattle.planned.specs.Writing.{place_of_write, not_written, unwritten_next, is_gone, is_gone_act, untold_next, written_next, write_next, show_next}
-use Rattle.planned.specs.Course.{command_next, state_next, may}
+use Rattle.planned.specs.Course.{given_alone, without_course, reparent_next, command_next, state_next, may}
 use Rattle.planned.proofs.TestLemmas.{number_itself, position_itself, standing_itself, IsAmong, first_found}
 use Rattle.planned.proofs.KnownLemmas.{CommandFits, IsReached}
-use Rattle.planned.proofs.NextLemmas.{AllMet, one_met, leaving_met}
+use Rattle.planned.proofs.NextLemmas.{AllMet, one_met, leaving_met, free_cause}
 use Rattle.planned.proofs.ReparentLemmas.{open_numbered, planned_met}
 
 -- ---- a write
@@ -138,39 +139,63 @@ one_alias : (a b : Alias) → ◌≡◌ {A = Option Alias} (Some a) (Some b) →
 one_alias a b h = cc
 
 declared_place : (config : Config) (w : World) (c : ℕ) (s : CommandState) (to : Option Alias) (o : Option Record) (a : Alias) → IsWriting config w c s to
-    → s.primary ≡ o → place_of_write to o ≡ Some a → is_declared config.tablets a ≡ true
+    → s.opening.seen.recorded ≡ o → place_of_write to o ≡ Some a → is_declared config.tablets a ≡ true
 declared_place config w c s (Some b) o a h is place = h.fits.writes a (h.named ∙ ap (λ (v : Alias). commands.Write (Some v)) (one_alias b a place))
 declared_place config w c s None None a h is place = absurd (let none : ◌≡◌ {A = Option Alias} None (Some a) = place in cc)
 declared_place config w c s None (Some r) a h is place =
     subst (λ (v : Alias). is_declared config.tablets v ≡ true) (one_alias r.alias a place) (h.fits.primary r is)
 
 write_met : (config : Config) (w : World) (c : ℕ) (s : CommandState) (to : Option Alias) (o : Option Alias) → IsWriting config w c s to
-    → place_of_write to s.primary ≡ o → AllMet config w (write_next w c s o)
-write_met config w c s to None h is = leaves_writing config w c s to answers.NoPrimaryRecorded h (no_place to s.primary is)
-write_met config w c s to (Some a) h is = written_met config w c s to a s.wrote h (declared_place config w c s to s.primary a h refl is) refl
+    → place_of_write to s.opening.seen.recorded ≡ o → AllMet config w (write_next w c s o)
+write_met config w c s to None h is = leaves_writing config w c s to answers.NoPrimaryRecorded h (no_place to s.opening.seen.recorded is)
+write_met config w c s to (Some a) h is = written_met config w c s to a s.wrote h (declared_place config w c s to s.opening.seen.recorded a h refl is) refl
 
 -- ---- a show
 
 show_met : (config : Config) (w : World) (c : ℕ) (s : CommandState) (a : Alias) (o : Option Shown) → s.command ≡ commands.Show a → open_command w c ≡ Some s
-    → s.shown ≡ o → AllMet config w (show_next c s a o)
+    → s.opening.shown ≡ o → AllMet config w (show_next c s a o)
 show_met config w c s a None named found is = tt
 show_met config w c s a (Some x) named found is =
     leaving_met config w c s (answers.Shown a (standing_of x.stand) x.position) found
     (ap (λ (v : Command). has_command_cause config w s v (answers.Shown a (standing_of x.stand) x.position)) named
-    ∙ both (alias_eq a a) (showed s.shown (standing_of x.stand) x.position) (alias_eq_itself a)
+    ∙ both (alias_eq a a) (showed s.opening.shown (standing_of x.stand) x.position) (alias_eq_itself a)
     (ap (λ (o : Option Shown). showed o (standing_of x.stand) x.position) is
     ∙ both (standing_eq (standing_of x.stand) (standing_of x.stand)) (position_eq x.position x.position) (standing_itself (standing_of x.stand))
     (position_itself x.position)))
 
 -- ---- any command
 
+given_is : (new_primary avoid expected : Option Alias) (a : Alias) → given_alone new_primary avoid expected ≡ Some a → new_primary ≡ Some a
+given_is o None None a h = h
+given_is o (Some b) expected a h = absurd (let none : ◌≡◌ {A = Option Alias} None (Some a) = h in cc)
+given_is o None (Some b) a h = absurd (let none : ◌≡◌ {A = Option Alias} None (Some a) = h in cc)
+
+without_met : (config : Config) (w : World) (c : ℕ) (s : CommandState) → open_command w c ≡ Some s → AllMet config w (without_course c s)
+without_met config w c s found = leaving_met config w c s (answers.Refused refusals.OutOfMemory None) found (free_cause config w s s.command)
+
 command_met : (config : Config) (w : World) (c : ℕ) (s : CommandState) (command : Command) → s.command ≡ command → open_command w c ≡ Some s → IsReached config w
     → AllMet config w (command_next config w c s command)
-command_met config w c s (commands.Planned shard a) named found known = planned_met config w c s a (record { shard = shard; named = named; found = found }) known
+command_met config w c s (commands.Planned shard new_primary avoid expected timeout allow_cross_cell) named found known =
+    of_given (given_alone new_primary avoid expected) refl
+  where
+    of_given : (o : Option Alias) → given_alone new_primary avoid expected ≡ o → AllMet config w (reparent_next config w c s o)
+    of_given None is = without_met config w c s found
+    of_given (Some a) is =
+        planned_met config w c s a
+        (record {
+          shard = shard;
+          avoid = avoid;
+          expected = expected;
+          timeout = timeout;
+          allow_cross_cell = allow_cross_cell;
+          named = named ∙ ap (λ (o : Option Alias). commands.Planned shard o avoid expected timeout allow_cross_cell) (given_is new_primary avoid expected a is);
+          found = found;
+        }) known
+command_met config w c s (commands.External a) named found known = without_met config w c s found
 command_met config w c s (commands.Write to) named found known =
-    write_met config w c s to (place_of_write to s.primary)
+    write_met config w c s to (place_of_write to s.opening.seen.recorded)
     (record { named = named; found = found; fits = known.commands c s (open_numbered (numbered w.commands c) s found) }) refl
-command_met config w c s (commands.Show a) named found known = show_met config w c s a s.shown named found refl
+command_met config w c s (commands.Show a) named found known = show_met config w c s a s.opening.shown named found refl
 
 state_met : (config : Config) (w : World) (c : ℕ) (o : Option CommandState) → open_command w c ≡ o → IsReached config w → AllMet config w (state_next config w c o)
 state_met config w c None found known = tt

@@ -10,10 +10,10 @@ use Rattle.gtid_sets.specs.Position.{Position, nothing}
 use Rattle.shard_calls.specs.declared.answer.Answer.{Answer}
 use Rattle.shard_calls.specs.declared.answer.Answer.TheVariants as says
 use Rattle.shard_calls.specs.declared.call.Call.{Call}
-use Rattle.shard_calls.specs.declared.command.NotJoined.{NotJoined}
-use Rattle.shard_calls.specs.declared.command.Refusal.{Refusal}
-use Rattle.shard_calls.specs.declared.command.Refusal.TheVariants as refusals
-use Rattle.shard_calls.specs.declared.command.Unacked.TheVariants as unackeds
+use Rattle.shard_calls.specs.declared.ending.NotJoined.{NotJoined}
+use Rattle.shard_calls.specs.declared.refusal.Refusal.{Refusal}
+use Rattle.shard_calls.specs.declared.refusal.Refusal.TheVariants as refusals
+use Rattle.shard_calls.specs.declared.refusal.Unacked.TheVariants as unackeds
 use Rattle.shard_calls.specs.declared.event.Event.{Event}
 use Rattle.shard_calls.specs.declared.event.Event.TheVariants as events
 use Rattle.shard_calls.specs.declared.post.Message.{Message}
@@ -84,6 +84,8 @@ refusal_to x (says.Stopped newest p) = None
 refusal_to x (says.Demoted newest p) = None
 refusal_to x (says.Promoted p) = None
 refusal_to x says.Joined = None
+refusal_to x says.Feeding = None
+refusal_to x says.Holds = None
 refusal_to x says.Told = None
 refusal_to x says.NotTold = Some (refusals.NotAcknowledged x.to (unackeds.NotTold x.sent (unwrap_or x.arrived 0)))
 refusal_to x (says.Kept stand) = Some (refusals.NotAcknowledged x.to (unackeds.Kept (standing_of stand)))

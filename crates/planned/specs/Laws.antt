@@ -10,7 +10,7 @@ use Rattle.shard_calls.specs.Outcomes.{Sending, sendings}
 use Rattle.shard_calls.specs.World.{Config, World, opening, open_command}
 use Rattle.shard_calls.specs.Writes.{tell_of}
 use Rattle.shard_calls.specs.Table.{Met, world_after, IsRun}
-use Rattle.planned.specs.Course.{may, next, leaves}
+use Rattle.planned.specs.Course.{WaitsInTime, may, next, leaves}
 
 -- the clock begins before the year 9999
 abbrev pub BeginsInTime : Config → Type 0
@@ -19,6 +19,10 @@ BeginsInTime config = IsTrue (nat_lt config.moment 253370764800000)
 -- a law of the worlds to which histories lead
 abbrev pub OfEveryWorld : (Config → World → Type 0) → Type 0
 OfEveryWorld Law = (config : Config) (steps : List Step) → BeginsInTime config → IsRun config steps → Law config (world_after config (opening config) steps)
+
+-- no open command waits for anything beyond the year 9999
+abbrev pub AllWaitInTime : Config → World → Type 0
+AllWaitInTime config w = (c : ℕ) → WaitsInTime w c
 
 -- all that a command may do next meets its row's condition
 abbrev pub MayIsMet : Config → World → Type 0

@@ -1,8 +1,8 @@
 -- How a command leaves: with an answer or a refusal, and without the lock. After the shard lock of PlannedReparentShard (Vitess manual).
 use Rattle.std.specs.Prelude.{ℕ, Bool, not, ◌&&◌, List, [], ◌∷◌, Option, Some, None, is_some, if◌then◌else◌}
-use Rattle.shard_calls.specs.declared.command.CommandAnswer.{CommandAnswer}
-use Rattle.shard_calls.specs.declared.command.CommandAnswer.TheVariants as answers
-use Rattle.shard_calls.specs.declared.command.Refusal.{Refusal}
+use Rattle.shard_calls.specs.declared.ending.CommandAnswer.{CommandAnswer}
+use Rattle.shard_calls.specs.declared.ending.CommandAnswer.TheVariants as answers
+use Rattle.shard_calls.specs.declared.refusal.Refusal.{Refusal}
 use Rattle.shard_calls.specs.declared.event.Event.{Event}
 use Rattle.shard_calls.specs.declared.event.Event.TheVariants as events
 use Rattle.shard_calls.specs.declared.state.CommandState.{CommandState}
@@ -15,8 +15,9 @@ owes_release s = is_some s.term && not s.released
 abbrev pub leaving : ℕ → CommandState → CommandAnswer → Event
 leaving c s x = if owes_release s then events.Release c else events.End c x
 
+-- with this refusal, and no undo of anything
 abbrev pub refusing : ℕ → CommandState → Refusal → Event
-refusing c s refusal = leaving c s (answers.Refused refusal)
+refusing c s refusal = leaving c s (answers.Refused refusal None)
 
 -- it leaves if it is refused, and else goes on like this
 abbrev pub unless_refused : ℕ → CommandState → Option Refusal → List Event → List Event

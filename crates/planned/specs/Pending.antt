@@ -1,7 +1,7 @@
 -- Actors and their commands, over every run: who has which command open.
 use Rattle.std.specs.Prelude.{◌≡◌, ℕ, ◌<◌, true, List, Some, IsTrue}
 use Rattle.shard_calls.specs.World.{Config, World, opening, numbered, open_of, open_command}
-use Rattle.shard_calls.specs.Begins.{names_declared}
+use Rattle.shard_calls.specs.Begins.{is_in_time, names_declared}
 use Rattle.shard_calls.specs.Table.{Met, world_after, IsRun}
 use Rattle.shard_calls.specs.declared.command.Command.{Command}
 use Rattle.shard_calls.specs.declared.event.Event.TheVariants as events
@@ -22,16 +22,16 @@ abbrev pub EarlierHasEnded : World → Type 0
 EarlierHasEnded w =
     (c d : ℕ) (s x : CommandState) → numbered w.commands c ≡ Some s → numbered w.commands d ≡ Some x → s.actor ≡ x.actor → c < d → s.ended ≡ true
 
--- an actor none of whose commands is open may give one, at declared tablets
+-- an actor none of whose commands is open may give one that waits at most a day, at declared tablets
 abbrev pub FreeMayBegin : Config → World → Type 0
 FreeMayBegin config w =
-    (name : List ℕ) (command : Command) → IsTrue (names_declared config command) → ((c : ℕ) (s : CommandState) → open_command w c ≡ Some s → s.actor ≡ name → ⊥)
+    (name : List ℕ) (command : Command) → IsTrue (is_in_time command) → IsTrue (names_declared config command) → ((c : ℕ) (s : CommandState) → open_command w c ≡ Some s → s.actor ≡ name → ⊥)
     → Met config w (events.Begin name command)
 
 -- and so may an actor whose last command has ended
 abbrev pub EndedMayBegin : Config → World → Type 0
 EndedMayBegin config w =
-    (c : ℕ) (s : CommandState) (command : Command) → IsTrue (names_declared config command) → numbered w.commands c ≡ Some s → s.ended ≡ true
+    (c : ℕ) (s : CommandState) (command : Command) → IsTrue (is_in_time command) → IsTrue (names_declared config command) → numbered w.commands c ≡ Some s → s.ended ≡ true
     → ((d : ℕ) (x : CommandState) → numbered w.commands d ≡ Some x → x.actor ≡ s.actor → c < d → ⊥) → Met config w (events.Begin s.actor command)
 
 -- actors and commands fit each other

@@ -1,5 +1,5 @@
--- The course of a reparent: what it may do next. After PlannedReparentShard (Vitess manual): lock the shard, promote, record, and let the others
--- replicate; with the terms and intents of Sougoumarane's "Consensus algorithms at scale". Where it stands is read off what it did, what its
+-- The course of a first reparent to a given tablet: what it may do next. After PlannedReparentShard (Vitess manual): lock the shard, promote, record, and
+-- let the others replicate; with the terms and intents of Sougoumarane's "Consensus algorithms at scale". Where it stands is read off what it did, what its
 -- calls came to, and what its term intends.
 use Rattle.std.specs.Prelude.{ℕ, ◌+◌, Bool, true, false, List, [], ◌∷◌, Option, Some, None, if◌then◌else◌}
 use Rattle.std.specs.List.{list_any}
@@ -12,10 +12,10 @@ use Rattle.durability.specs.Rules.{is_eligible}
 use Rattle.durability.specs.Policies.{rules_of}
 use Rattle.topo_lock.specs.declared.intent.Intent.{Intent}
 use Rattle.shard_calls.specs.declared.call.Call.TheVariants as calls
-use Rattle.shard_calls.specs.declared.command.CommandAnswer.TheVariants as answers
-use Rattle.shard_calls.specs.declared.command.Refusal.{Refusal}
-use Rattle.shard_calls.specs.declared.command.Refusal.TheVariants as refusals
-use Rattle.shard_calls.specs.declared.command.Bar.TheVariants as bars
+use Rattle.shard_calls.specs.declared.ending.CommandAnswer.TheVariants as answers
+use Rattle.shard_calls.specs.declared.refusal.Refusal.{Refusal}
+use Rattle.shard_calls.specs.declared.refusal.Refusal.TheVariants as refusals
+use Rattle.shard_calls.specs.declared.refusal.Bar.TheVariants as bars
 use Rattle.shard_calls.specs.declared.event.Event.{Event}
 use Rattle.shard_calls.specs.declared.event.Event.TheVariants as events
 use Rattle.shard_calls.specs.declared.state.Act.{Act}
@@ -46,7 +46,7 @@ refusal_by_intent (Some i) = Some (refusals.NotBuilt i.term)
 abbrev pub refusal_by : Act → Option Refusal
 refusal_by (acts.Taken term by) = Some (refusals.LockTaken term by)
 refusal_by (acts.Lost term) = Some (refusals.LockLost term)
-refusal_by (acts.Read seen) = refusal_by_intent seen.last_intent
+refusal_by (acts.Read seen) = refusal_by_intent seen.intent
 refusal_by (acts.Recorded a) = None
 refusal_by (acts.Sent k) = None
 refusal_by (acts.NotPrimary a at) = None

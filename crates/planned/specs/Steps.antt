@@ -8,9 +8,9 @@ use Rattle.gtid_sets.specs.Position.{Position, nothing}
 use Rattle.shard_calls.specs.declared.answer.Answer.{Answer}
 use Rattle.shard_calls.specs.declared.call.Call.{Call}
 use Rattle.shard_calls.specs.declared.call.Call.TheVariants as calls
-use Rattle.shard_calls.specs.declared.command.Left.{Left}
-use Rattle.shard_calls.specs.declared.command.NotJoined.{NotJoined}
-use Rattle.shard_calls.specs.declared.command.Refusal.{Refusal}
+use Rattle.shard_calls.specs.declared.ending.Left.{Left}
+use Rattle.shard_calls.specs.declared.ending.NotJoined.{NotJoined}
+use Rattle.shard_calls.specs.declared.refusal.Refusal.{Refusal}
 use Rattle.shard_calls.specs.declared.event.Event.{Event}
 use Rattle.shard_calls.specs.declared.event.Reply.{Reply}
 use Rattle.shard_calls.specs.declared.event.Reply.TheVariants as replies

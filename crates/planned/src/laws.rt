@@ -1,6 +1,6 @@
 //! What holds of what commands do next. The functions do nothing: each one's contract is a law.
 
-ghost use Rattle.planned.specs.Laws.{OfEveryWorld, MayIsMet, NextIsMet, LeavingIsMet, NoneBlocks};
+ghost use Rattle.planned.specs.Laws.{OfEveryWorld, AllWaitInTime, MayIsMet, NextIsMet, LeavingIsMet, NoneBlocks};
 ghost use Rattle.planned.specs.Follows.{MayIsOwn, LeavingIsOwn, CourseIsMet, NextKeeps, LeavingKeeps, OthersKeep};
 ghost use Rattle.planned.specs.Pending.{ActorsFitAlways};
 
@@ -42,4 +42,9 @@ pub fn commands_keep_to_courses()
     ensures next { NextKeeps }
     ensures leaving { LeavingKeeps }
     ensures others { OthersKeep }
+{}
+
+/// In every history, what an open command waits for now it waits for until a moment before the year 10000.
+pub fn waits_end_in_time()
+    ensures { OfEveryWorld AllWaitInTime }
 {}

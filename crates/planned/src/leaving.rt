@@ -28,7 +28,8 @@ pub(crate) fn leaving(command: u64, state: &CommandState, answer: CommandAnswer)
 pub(crate) fn refusing(command: u64, state: &CommandState, refusal: Refusal) -> Event
     ensures { result ≡ refusing command state.now refusal }
 {
-    leaving(command, state, CommandAnswer::Refused { refusal })
+    let undone = None;
+    leaving(command, state, CommandAnswer::Refused { refusal, undone })
 }
 
 /// How an open command leaves that has run out of memory: it frees the lock once, if it took it, and ends. It takes no memory.
@@ -41,6 +42,7 @@ pub fn leaves(fields: &Fields, command: u64) -> Event
             command,
             answer: CommandAnswer::Refused {
                 refusal: Refusal::OutOfMemory,
+                undone: None,
             },
         },
     }

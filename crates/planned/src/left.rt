@@ -38,7 +38,7 @@ fn left_by(post: &Post, message: &Message) -> Result<Option<Left>, OutOfMemory>
     ensures { IfOk result (λ left. left ≡ left_by (outcome_of post.now.messages message.now)) }
 {
     if let Some(why) = why_of(message) {
-        return Ok(Some(Left::GivenUp { why }));
+        return Ok(Some(Left::GivenUp(why)));
     }
     match answer_of(post, message) {
         Some(answer) => left_by_answer(answer),

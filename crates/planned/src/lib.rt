@@ -16,6 +16,6 @@ mod writing;
 pub use course::next;
 pub use laws::{
     actors_fit, commands_keep_to_courses, course_is_met, courses_are_own, leaving_is_met,
-    next_is_met, none_blocks,
+    next_is_met, none_blocks, waits_end_in_time,
 };
 pub use leaving::leaves;

@@ -49,12 +49,12 @@ fn refusal_by(act: &Act) -> Option<Refusal>
     ensures { result ≡ refusal_by act.now }
 {
     match act {
-        Act::Taken { term, by } => Some(Refusal::LockTaken {
+        Act::Taken { term, actor } => Some(Refusal::LockTaken {
             term: *term,
-            by: *by,
+            actor: *actor,
         }),
         Act::Lost { term } => Some(Refusal::LockLost { term: *term }),
-        Act::Read { seen } => refusal_by_intent(&seen.last_intent),
+        Act::Read { seen } => refusal_by_intent(&seen.intent),
         Act::Recorded { .. } => None,
         Act::Sent { .. } => None,
         Act::NotPrimary { .. } => None,
@@ -116,6 +116,8 @@ pub(crate) fn refusal_to(
         Answer::Demoted { .. } => Ok(None),
         Answer::Promoted { .. } => Ok(None),
         Answer::Joined => Ok(None),
+        Answer::Feeding => Ok(None),
+        Answer::Holds => Ok(None),
         Answer::Told => Ok(None),
         Answer::PromisedAhead { .. } => Ok(None),
         Answer::Errant { .. } => Ok(None),

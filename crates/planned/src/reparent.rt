@@ -1,4 +1,4 @@
-//! What a reparent does next.
+//! What a first reparent to a given tablet does next.
 
 ghost use Rattle.std.specs.Prelude.{◌≡◌, ◌<◌, ◌+◌, IfOk, option_map};
 ghost use Rattle.std.specs.Option.{option_copied};
@@ -12,9 +12,10 @@ ghost use Rattle.planned.specs.Leaving.{leaving};
 ghost use Rattle.planned.specs.Reparent.{told_next, joined_next, asked_next, promoted_next, intended_next, taken_next, planned_next};
 ghost use Rattle.planned.specs.Steps.{call_to};
 ghost use Rattle.gtid_sets.specs.Position.{nothing};
-ghost use Rattle.shard_calls.specs.declared.command.CommandAnswer.TheVariants as answers;
+ghost use Rattle.shard_calls.specs.declared.ending.CommandAnswer.TheVariants as answers;
 ghost use Rattle.shard_calls.specs.declared.event.Event.TheVariants as events;
 ghost use Rattle.shard_calls.specs.declared.call.Call.TheVariants as calls;
+ghost use Rattle.shard_calls.specs.Deliveries.{end_of_time};
 ghost use Rattle.shard_calls.specs.Messages.{timeout_of};
 
 use crate::acts::{has_read, has_recorded};
@@ -29,12 +30,9 @@ use post::Post;
 use shard_base::OutOfMemory;
 use shard_calls::{Act, Call, CommandAnswer, CommandState, Event, Message};
 use shard_names::Alias;
-use shard_state::{Fields, intends, tablet_of};
+use shard_state::{Fields, intends, tablet_of, timeout_of};
 use std::alloc::Global;
 use tablet_manager::Manager;
-
-/// The milliseconds that a command waits for the promotion to count as committed.
-const TIMEOUT: u64 = 15000;
 
 /// It leaves, and says who did not join.
 fn promoted(
@@ -77,12 +75,11 @@ fn told_by(
 }
 
 fn ask_told(fields: &Fields, command: u64, state: &CommandState, alias: &Alias) -> Event
-    requires time { fields.now.clock < 253370764800000 }
+    requires time { fields.now.clock + timeout_of state.now.command < end_of_time }
     ensures { result ≡ events.Send command alias.now (calls.WaitTold (fields.now.clock + timeout_of state.now.command)) }
 {
-    let _ = state;
     let alias = *alias;
-    let until = fields.clock + TIMEOUT;
+    let until = fields.clock + timeout_of(&state.command);
     let call = Call::WaitTold { until };
     Event::Send {
         command,
@@ -101,7 +98,7 @@ fn told_next(
     term: u64,
 ) -> Result<Option<Event>, OutOfMemory>
     requires group { AreOfGroup (data_of fields.now) }
-    requires time { fields.now.clock < 253370764800000 }
+    requires time { fields.now.clock + timeout_of state.now.command < end_of_time }
     ensures { IfOk result (λ event. event ≡ first_of (told_next (seen (data_of fields.now)) command state.now alias.now term (called is_wait_told alias.now (sendings fields.now.post.messages state.now.acts)))) }
 {
     match called(&fields.post, Kind::WaitTold, alias, state.acts.as_slice()) {
@@ -120,7 +117,7 @@ fn joined_next(
     term: u64,
 ) -> Result<Option<Event>, OutOfMemory>
     requires group { AreOfGroup (data_of fields.now) }
-    requires time { fields.now.clock < 253370764800000 }
+    requires time { fields.now.clock + timeout_of state.now.command < end_of_time }
     ensures { IfOk result (λ event. event ≡ first_of (joined_next (seen (data_of fields.now)) command state.now alias.now term (sendings fields.now.post.messages state.now.acts))) }
 {
     if is_one_joining(&fields.post, state.acts.as_slice()) {
@@ -176,7 +173,7 @@ fn asked_next(
     position: GtidSet,
 ) -> Result<Option<Event>, OutOfMemory>
     requires group { AreOfGroup (data_of fields.now) }
-    requires time { fields.now.clock < 253370764800000 }
+    requires time { fields.now.clock + timeout_of state.now.command < end_of_time }
     ensures { IfOk result (λ event. event ≡ first_of (asked_next (seen (data_of fields.now)) command state.now alias.now term position (sendings fields.now.post.messages state.now.acts) (next_to_ask (config_in (data_of fields.now)).tablets alias.now (sendings fields.now.post.messages state.now.acts)))) }
 {
     match next_to_ask(fields, alias, state.acts.as_slice()) {
@@ -207,7 +204,7 @@ fn promoted_next(
     position: GtidSet,
 ) -> Result<Option<Event>, OutOfMemory>
     requires group { AreOfGroup (data_of fields.now) }
-    requires time { fields.now.clock < 253370764800000 }
+    requires time { fields.now.clock + timeout_of state.now.command < end_of_time }
     ensures { IfOk result (λ event. event ≡ first_of (promoted_next (config_in (data_of fields.now)) (seen (data_of fields.now)) command state.now alias.now term position (sendings fields.now.post.messages state.now.acts))) }
 {
     if has_recorded(alias, state.acts.as_slice()) {
@@ -228,7 +225,7 @@ fn intended_by(
     message: &Message,
 ) -> Result<Option<Event>, OutOfMemory>
     requires group { AreOfGroup (data_of fields.now) }
-    requires time { fields.now.clock < 253370764800000 }
+    requires time { fields.now.clock + timeout_of state.now.command < end_of_time }
     ensures { IfOk result (λ event. event ≡ first_of (intended_next (config_in (data_of fields.now)) (seen (data_of fields.now)) command state.now alias.now term (sendings fields.now.post.messages state.now.acts) (Some (call_to alias.now fields.now.post.messages message.now)))) }
 {
     match came_to(&fields.post, alias, message)? {
@@ -265,7 +262,7 @@ fn intended_next(
     term: u64,
 ) -> Result<Option<Event>, OutOfMemory>
     requires group { AreOfGroup (data_of fields.now) }
-    requires time { fields.now.clock < 253370764800000 }
+    requires time { fields.now.clock + timeout_of state.now.command < end_of_time }
     ensures { IfOk result (λ event. event ≡ first_of (intended_next (config_in (data_of fields.now)) (seen (data_of fields.now)) command state.now alias.now term (sendings fields.now.post.messages state.now.acts) (called is_promote alias.now (sendings fields.now.post.messages state.now.acts)))) }
 {
     match called(&fields.post, Kind::Promote, alias, state.acts.as_slice()) {
@@ -284,7 +281,7 @@ fn taken_next(
     term: u64,
 ) -> Result<Option<Event>, OutOfMemory>
     requires group { AreOfGroup (data_of fields.now) }
-    requires time { fields.now.clock < 253370764800000 }
+    requires time { fields.now.clock + timeout_of state.now.command < end_of_time }
     ensures { IfOk result (λ event. event ≡ first_of (taken_next (config_in (data_of fields.now)) (seen (data_of fields.now)) command state.now alias.now term)) }
 {
     if !has_read(state.acts.as_slice()) {
@@ -306,7 +303,7 @@ pub(crate) fn planned_next(
     alias: &Alias,
 ) -> Result<Option<Event>, OutOfMemory>
     requires group { AreOfGroup (data_of fields.now) }
-    requires time { fields.now.clock < 253370764800000 }
+    requires time { fields.now.clock + timeout_of state.now.command < end_of_time }
     ensures { IfOk result (λ event. event ≡ first_of (planned_next (config_in (data_of fields.now)) (seen (data_of fields.now)) command state.now alias.now)) }
 {
     let tablet = tablet_of(&fields.managers, alias);

@@ -2,7 +2,7 @@
 
 ghost use Rattle.std.specs.Prelude.{◌≡◌, IfOk};
 ghost use Rattle.std.specs.Option.{option_copied};
-ghost use Rattle.shard_calls.specs.declared.command.CommandAnswer.TheVariants as answers;
+ghost use Rattle.shard_calls.specs.declared.ending.CommandAnswer.TheVariants as answers;
 ghost use Rattle.shard_calls.specs.Stands.{standing_of};
 ghost use Rattle.shard_calls.specs.World.{numbered};
 ghost use Rattle.shard_calls.specs.Writes.{tell_reply, tell_of};
@@ -177,9 +177,9 @@ pub(crate) fn write_next(
     to: &Option<Alias>,
 ) -> Option<Event>
     requires group { AreOfGroup (data_of fields.now) }
-    ensures { result ≡ first_of (write_next (seen (data_of fields.now)) command state.now (place_of_write to.now state.now.primary)) }
+    ensures { result ≡ first_of (write_next (seen (data_of fields.now)) command state.now (place_of_write to.now state.now.opening.seen.recorded)) }
 {
-    match place_of_write(to, &state.primary) {
+    match place_of_write(to, &state.opening.seen.recorded) {
         Some(alias) => written_next(fields, command, state, &alias),
         None => Some(leaving(command, state, CommandAnswer::NoPrimaryRecorded)),
     }
@@ -201,9 +201,9 @@ pub(crate) fn show_next(
     state: &CommandState,
     alias: &Alias,
 ) -> Result<Option<Event>, OutOfMemory>
-    ensures { IfOk result (λ event. event ≡ first_of (show_next command state.now alias.now state.now.shown)) }
+    ensures { IfOk result (λ event. event ≡ first_of (show_next command state.now alias.now state.now.opening.shown)) }
 {
-    match &state.shown {
+    match &state.opening.shown {
         Some(stood) => {
             let answer = shown(alias, stood)?;
             Ok(Some(leaving(command, state, answer)))

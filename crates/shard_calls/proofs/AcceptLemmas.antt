@@ -20,7 +20,7 @@ use Rattle.shard_calls.specs.declared.post.Message.{Message}
 use Rattle.shard_calls.specs.declared.stand.Stand.{Stand}
 use Rattle.shard_calls.specs.Groups.{Group}
 use Rattle.shard_calls.specs.Stands.{is_down, is_primary, is_primary_of}
-use Rattle.shard_calls.specs.Logs.{place_of_row}
+use Rattle.gtid_sets.specs.Logs.{place_of_row}
 use Rattle.shard_calls.specs.Tablets.{TabletState, is_told, is_row_told, answer_to}
 use Rattle.shard_calls.specs.World.{Config, World, group_of, numbered}
 use Rattle.shard_calls.specs.Messages.{passes, is_told_at, is_row_told_at, is_ready, is_received, may_arrive, is_cut, link_of}

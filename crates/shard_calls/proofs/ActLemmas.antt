@@ -10,7 +10,7 @@ use Rattle.shard_names.specs.declared.alias.Alias.{Alias}
 use Rattle.shard_names.specs.declared.tablet.Tablet.{Tablet}
 use Rattle.shard_names.specs.Tablets.{tablet_of, is_declared}
 use Rattle.shard_names.proofs.TabletLemmas.{both_left, both_right}
-use Rattle.topo_lock.specs.Topology.{Topology, is_held_in, last_intent, answer_take, answer_intend, answer_record}
+use Rattle.topo_lock.specs.Topology.{Topology, is_held_in, answer_take, answer_intend, answer_record}
 use Rattle.topo_lock.specs.declared.lock.LockTaken.{LockTaken}
 use Rattle.topo_lock.specs.declared.lock.TopoFault.{TopoFault}
 use Rattle.topo_lock.specs.declared.lock.TopoFault.TheVariants as faults
@@ -34,7 +34,7 @@ use Rattle.shard_calls.specs.Tablets.{TabletState}
 use Rattle.shard_calls.specs.World.{Config, World, opening, changed_at, numbered, on_message, arrives, with_act, if_open, open_command, term_in, term_of, is_eligible_alias}
 use Rattle.shard_calls.specs.Messages.{why_given_up, offer_to}
 use Rattle.shard_calls.specs.Begins.{ends_by}
-use Rattle.shard_calls.specs.Locks.{takes_by, took_nothing, taken_reply, with_taken, by_term, reads, read_reply, read_act, topo_reply, with_intended, intends_in, with_recorded, records_in, may_record, as_released, releases_in}
+use Rattle.shard_calls.specs.Locks.{seen_of, takes_by, took_nothing, taken_reply, with_taken, by_term, reads, read_reply, read_act, topo_reply, with_intended, intends_in, with_recorded, records_in, may_record, as_released, releases_in}
 use Rattle.shard_calls.specs.Deliveries.{if_declared, asked, fed, feed_verdict, after_arrival, after_delivery, gives_up, offers, may_send}
 use Rattle.shard_calls.specs.Writes.{write_reply, may_write, writes_in, writes_at, write_verdict, with_written, written_reply, tell_of, tells}
 use Rattle.shard_calls.specs.Table.{Met, answer, after, world_after, IsRunFrom}
@@ -124,8 +124,8 @@ read_shows : (topo : Topology) (t : ℕ) → read_by_reply (read_reply topo t) �
 read_shows topo t = of_test (is_held_in topo t)
   where
     of_test : (b : Bool)
-        → read_by_reply (cond b (replies.Seen (record { recorded = topo.recorded; last_intent = last_intent topo })) (replies.Lost topo.term))
-        ≡ Some (cond b (acts.Read (record { recorded = topo.recorded; last_intent = last_intent topo })) (acts.Lost topo.term))
+        → read_by_reply (cond b (replies.Read (seen_of topo)) (replies.Lost topo.term))
+        ≡ Some (cond b (acts.Read (seen_of topo)) (acts.Lost topo.term))
     of_test true = refl
     of_test false = refl
 
@@ -208,7 +208,7 @@ tell_acts w d c (Some replies.Told) is met =
 tell_acts w d c (Some (replies.Begun command)) is met = same_none w.commands d c
 tell_acts w d c (Some (replies.Term term)) is met = same_none w.commands d c
 tell_acts w d c (Some (replies.Taken term by)) is met = same_none w.commands d c
-tell_acts w d c (Some (replies.Seen seen)) is met = same_none w.commands d c
+tell_acts w d c (Some (replies.Read seen)) is met = same_none w.commands d c
 tell_acts w d c (Some (replies.Lost term)) is met = same_none w.commands d c
 tell_acts w d c (Some (replies.Stands a)) is met = same_none w.commands d c
 tell_acts w d c (Some (replies.Message k)) is met = same_none w.commands d c

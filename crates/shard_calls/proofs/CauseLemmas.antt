@@ -17,8 +17,8 @@ use Rattle.shard_calls.specs.declared.call.Call.{Call}
 use Rattle.shard_calls.specs.declared.call.Call.TheVariants as calls
 use Rattle.shard_calls.specs.declared.command.Command.{Command}
 use Rattle.shard_calls.specs.declared.command.Command.TheVariants as commands
-use Rattle.shard_calls.specs.declared.command.CommandAnswer.TheVariants as answers
-use Rattle.shard_calls.specs.declared.command.NotJoined.{NotJoined}
+use Rattle.shard_calls.specs.declared.ending.CommandAnswer.TheVariants as answers
+use Rattle.shard_calls.specs.declared.ending.NotJoined.{NotJoined}
 use Rattle.shard_calls.specs.declared.post.Content.{Content}
 use Rattle.shard_calls.specs.declared.post.Content.TheVariants as contents
 use Rattle.shard_calls.specs.declared.post.Message.{Message}
@@ -28,7 +28,7 @@ use Rattle.shard_calls.specs.declared.state.Act.{Act}
 use Rattle.shard_calls.specs.declared.state.Act.TheVariants as acts
 use Rattle.shard_calls.specs.declared.state.CommandState.{CommandState}
 use Rattle.shard_calls.specs.declared.state.Wrote.{Wrote}
-use Rattle.shard_calls.specs.Logs.{has_row}
+use Rattle.gtid_sets.specs.Logs.{has_row}
 use Rattle.shard_calls.specs.Outcomes.{Outcome, Answered, GivenUp, answer_in, outcome_by, outcome_of, Sending, sending_by, sending_of, sendings}
 use Rattle.shard_calls.specs.Causes.{is_some_of, is_promote, is_wait_told, is_promoted, is_told_so, came_to_in, leaves_out, wrote_this, is_told_act, has_command_cause, has_cause}
 use Rattle.shard_calls.specs.World.{Config, World, numbered}
@@ -40,7 +40,8 @@ use Rattle.shard_calls.proofs.ToldLemmas.{RowIfPromoted, AnswerFits, Answering, 
 
 committed_by : (config : Config) (w : World) (s : CommandState) (command : Command) (g : Gtid) (a : Alias) (t : ℕ)
     → has_command_cause config w s command (answers.Committed g a t) ≡ true → wrote_this s.wrote g a t ≡ true
-committed_by config w s (commands.Planned shard new_primary) g a t h = absurd (false≢true h)
+committed_by config w s (commands.Planned shard given avoid expected timeout allow_cross_cell) g a t h = absurd (false≢true h)
+committed_by config w s (commands.External b) g a t h = absurd (false≢true h)
 committed_by config w s (commands.Write to) g a t h = both_left (wrote_this s.wrote g a t) (list_any is_told_act s.acts) h
 committed_by config w s (commands.Show b) g a t h = absurd (false≢true h)
 
@@ -82,7 +83,8 @@ promoted_by : (config : Config) (w : World) (s : CommandState) (command : Comman
     → has_command_cause config w s command (answers.Promoted a t left) ≡ true → came_to_in t is_promote a is_promoted (sendings w.post s.acts) ≡ true
 promoted_by config w s (commands.Write to) a t left h = absurd (false≢true h)
 promoted_by config w s (commands.Show b) a t left h = absurd (false≢true h)
-promoted_by config w s (commands.Planned shard new_primary) a t left h =
+promoted_by config w s (commands.External b) a t left h = absurd (false≢true h)
+promoted_by config w s (commands.Planned shard given avoid expected timeout allow_cross_cell) a t left h =
     let first : Bool = is_some_of s.term t in
     let came : Bool = came_to_in t is_promote a is_promoted (sendings w.post s.acts) in
     let told : Bool = came_to_in t is_wait_told a is_told_so (sendings w.post s.acts) in
@@ -172,6 +174,8 @@ promoted_outcome (Some (Answered (says.Status seen promised at newest position))
 promoted_outcome (Some (Answered (says.Stopped newest position))) h = absurd (false≢true h)
 promoted_outcome (Some (Answered (says.Demoted newest position))) h = absurd (false≢true h)
 promoted_outcome (Some (Answered says.Joined)) h = absurd (false≢true h)
+promoted_outcome (Some (Answered says.Feeding)) h = absurd (false≢true h)
+promoted_outcome (Some (Answered says.Holds)) h = absurd (false≢true h)
 promoted_outcome (Some (Answered says.Told)) h = absurd (false≢true h)
 promoted_outcome (Some (Answered says.NotTold)) h = absurd (false≢true h)
 promoted_outcome (Some (Answered (says.Kept at))) h = absurd (false≢true h)
@@ -187,6 +191,8 @@ promote_call calls.Stop h = absurd (false≢true h)
 promote_call calls.Demote h = absurd (false≢true h)
 promote_call (calls.Promote p) h = (p, refl)
 promote_call (calls.SetSource source t p) h = absurd (false≢true h)
+promote_call calls.Feed h = absurd (false≢true h)
+promote_call (calls.WaitFor p until) h = absurd (false≢true h)
 promote_call (calls.WaitTold until) h = absurd (false≢true h)
 
 -- the tablet of the term has its row, and the term intends it

@@ -26,12 +26,12 @@ use Rattle.shard_calls.specs.declared.post.Content.TheVariants as contents
 use Rattle.shard_calls.specs.declared.post.Message.{Message}
 use Rattle.shard_calls.specs.declared.stand.Stand.{Stand}
 use Rattle.shard_calls.specs.declared.stand.Stand.TheVariants as stands
-use Rattle.shard_calls.specs.Stands.{is_down, is_primary_of, is_replica_in, primary_term, takes_from, waits_for}
-use Rattle.shard_calls.specs.Logs.{position_of, has_row, holds, with_entry, with_own, newest_row, newest_row_names, place_of_row, next_gtid}
-use Rattle.shard_calls.specs.Tablets.{TabletState, Verdict, only_says, in_term, stops, demotes, promotes, joins, waits_told, after_call, accepts, after_ack, writes_own}
+use Rattle.shard_calls.specs.Stands.{is_down, is_stopped, is_primary_of, is_replica_in, is_feeder_in, primary_term, takes_from, waits_for}
+use Rattle.gtid_sets.specs.Logs.{position_of, has_row, holds, with_entry, with_own, newest_row_names, next_gtid}
+use Rattle.shard_calls.specs.Tablets.{TabletState, Verdict, only_says, in_term, stops, demotes, promotes, joins, feeds, waits_for_position, waits_told, after_call, accepts, after_ack, writes_own}
 use Rattle.shard_calls.specs.Laws.{WaitsForEntry}
 use Rattle.shard_calls.specs.World.{Config, IsConfig, World, opening, numbered, on_message, arrives}
-use Rattle.shard_calls.specs.Messages.{Indexed, needed_from, needed, may_feed, feed_of, offered_by, has_come_to}
+use Rattle.shard_calls.specs.Messages.{Indexed, needed_from, sends_all_from, needed, may_feed, feed_of, offered_by, has_come_to}
 use Rattle.shard_calls.specs.Deliveries.{after_delivery, after_arrival, fed}
 use Rattle.shard_calls.specs.Table.{after}
 use Rattle.shard_calls.specs.RunLaws.{IsIn, HasFirst}
@@ -60,6 +60,7 @@ taken_stand (stands.Replica source t next) from term before h =
     let terms : t ≡ term = (let test = both_right (alias_eq source from) (t == term) front in grind (arith, nat_tests)) in
     let names : source ≡ from = alias_eq_is source from (both_left (alias_eq source from) (t == term) front) in
     ap (λ (a : Alias). stands.Replica a t next) names ∙ ap (λ (u : ℕ). stands.Replica from u next) terms ∙ ap (λ (n : ℕ). stands.Replica from term n) place
+taken_stand (stands.Feeder t) from term before h = absurd (false≢true h)
 
 pub took : (from : Alias) (term before index : ℕ) (x : Entry) (s : TabletState) → (accepts from term before index x s).says ≡ accepteds.Taken
     → takes_from s.stand from term before ≡ true
@@ -187,6 +188,12 @@ call_holds config w v a u (calls.SetSource source t p) me known =
     (λ stays. same_kept config w v a _ known refl refl refl)
     (λ other. chosen (VerdictHolds v a) (covers p (position_of (w.tablets a).log)) _ _
     (λ inside. quiet config w v a _ known (λ n is. joined v (w.tablets a).log source n is) refl) (λ errant. same_kept config w v a _ known refl refl refl))))
+call_holds config w v a u calls.Feed me known =
+    in_term_holds config w v a u (feeds u) known
+    (chosen (VerdictHolds v a) (is_feeder_in (w.tablets a).stand u) _ _ (λ feeder. same_kept config w v a _ known refl refl refl)
+    (λ other. chosen (VerdictHolds v a) (is_stopped (w.tablets a).stand && ((w.tablets a).promised == u)) _ _ (λ stopped. quiet config w v a _ known tt refl)
+    (λ keeps. same_kept config w v a _ known refl refl refl)))
+call_holds config w v a u (calls.WaitFor p until) me known = in_term_holds config w v a u (waits_for_position p) known (same_kept config w v a _ known refl refl refl)
 call_holds config w v a u (calls.WaitTold until) me known = in_term_holds config w v a u (waits_told w.group me u) known (same_kept config w v a _ known refl refl refl)
 
 written_holds : (config : Config) (w v : World) (a : Alias) (o : Option ℕ) (me : Tablet) (client number : ℕ) → Known config w v
@@ -302,7 +309,7 @@ needed_bridges config w s r n x is unique first h = record {
       let place : n - 1 + (suc i - n) ≡ i = omega (arith, from, first) in
       let there : slice_get (w.tablets s).log (n - 1 + (suc i - n)) ≡ Some e = at_place (w.tablets s).log _ _ e (sym place) at in
       let held : holds (w.tablets r).log e.gtid ≡ true =
-      needed_between n (place_of_row (w.tablets s).log (newest_row (w.tablets s).log)) (w.tablets r).log (drop (n - 1) (w.tablets s).log) x h (suc i - n) e
+      needed_between n (sends_all_from (w.tablets s)) (w.tablets r).log (drop (n - 1) (w.tablets s).log) x h (suc i - n) e
       (omega (arith, from, first, less)) (drop_get (n - 1) (w.tablets s).log (suc i - n) e there) in
       let f = holds_found (w.tablets r).log e.gtid held in
       let same : f.0 ≡ e = one_entry config w is unique r s f.1.0 i f.0 e f.1.1 at f.2 in
@@ -328,6 +335,7 @@ offered_says config w r stands.Down content is sound unique at h = absurd (let n
 offered_says config w r stands.Stopped content is sound unique at h = absurd (let none : None ≡ Some content = h in cc)
 offered_says config w r (stands.Primary t) content is sound unique at h = absurd (let none : None ≡ Some content = h in cc)
 offered_says config w r (stands.Demoted t by) content is sound unique at h = absurd (let none : None ≡ Some content = h in cc)
+offered_says config w r (stands.Feeder t) content is sound unique at h = absurd (let none : None ≡ Some content = h in cc)
 offered_says config w r (stands.Replica s t n) content is sound unique at h =
     let first : 1 ≤ n = subst (λ (x : Stand). WaitsForEntry x) at (sound.tablets r).waits in
     may_feed_says config w s r t n content (may_feed w s r t n) is unique first h

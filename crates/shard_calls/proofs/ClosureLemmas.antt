@@ -115,6 +115,7 @@ StandSays w log stands.Stopped = Unit {0}
 StandSays w log (stands.Primary t) = Unit {0}
 StandSays w log (stands.Demoted t by) = Unit {0}
 StandSays w log (stands.Replica source t next) = (n : ℕ) → next ≡ suc n → Follows log (w.tablets source).log n
+StandSays w log (stands.Feeder t) = Unit {0}
 
 -- what a tablet's state says of the logs: its stand, and what it noted
 pub record Holds (w : World) (a : Alias) (s : TabletState) : Type 0 where
@@ -152,6 +153,7 @@ stand_stays w v log log' stands.Stopped later front h = tt
 stand_stays w v log log' (stands.Primary t) later front h = tt
 stand_stays w v log log' (stands.Demoted t by) later front h = tt
 stand_stays w v log log' (stands.Replica source t next) later front h = λ n is. follows_stays log log' _ _ n front (later.logs source) (h n is)
+stand_stays w v log log' (stands.Feeder t) later front h = tt
 
 pub noted_stays : (config : Config) (w v : World) (a : Alias) → Known config w v → (r : Alias) → Follows (v.tablets r).log (v.tablets a).log ((w.tablets a).acked r)
 noted_stays config w v a known r =

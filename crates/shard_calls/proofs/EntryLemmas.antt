@@ -15,7 +15,7 @@ use Rattle.gtid_sets.specs.Gtid.{gtid_eq}
 use Rattle.gtid_sets.proofs.GtidLemmas.{gtid_eq_itself, gtid_eq_is}
 use Rattle.shard_calls.specs.declared.event.Event.{Event}
 use Rattle.shard_calls.specs.declared.post.Content.TheVariants as contents
-use Rattle.shard_calls.specs.Logs.{holds, with_own, own_number, greatest_number, next_gtid}
+use Rattle.gtid_sets.specs.Logs.{holds, with_own, own_number, greatest_number, next_gtid}
 use Rattle.shard_calls.specs.World.{Config, IsConfig, World, opening, numbered}
 use Rattle.shard_calls.specs.Table.{after}
 use Rattle.shard_calls.proofs.ListLemmas.{slice_get-push_cases}

@@ -1,29 +1,35 @@
 -- Histories played on the definitions by computation: what each event is answered, and that each answer of a command has its cause.
-use Rattle.std.proofs.Common.{◌≡◌, ℕ, ◌+◌, Bool, true, false, not, ◌&&◌, ◌||◌, refl, List, [], ◌∷◌, Some, None, is_some, is_none, codes, take}
+use Rattle.std.proofs.Common.{◌≡◌, ℕ, ◌+◌, Bool, true, false, not, ◌&&◌, ◌||◌, refl, List, [], ◌∷◌, ◌++◌, Option, Some, None, is_some, is_none, codes, take}
 use Rattle.std.specs.List.{list_all}
 use Rattle.shard_names.specs.declared.alias.Alias.{Alias}
 use Rattle.shard_names.specs.declared.tablet.Tablet.{Tablet}
 use Rattle.shard_names.specs.declared.tablet.TabletType.TheVariants as types
 use Rattle.shard_names.specs.declared.shard_name.ShardName.{ShardName}
 use Rattle.gtid_sets.specs.declared.gtid.Gtid.{Gtid}
-use Rattle.gtid_sets.specs.Position.{nothing, of_gtids}
+use Rattle.gtid_sets.specs.declared.entry.Kind.TheVariants as kinds
+use Rattle.gtid_sets.specs.Position.{Position, nothing, of_gtids}
+use Rattle.shard_base.specs.Options.{◌>>=◌}
 use Rattle.durability.specs.declared.policy.Durability.{Durability}
 use Rattle.durability.specs.declared.policy.Durability.TheVariants as policies
+use Rattle.shard_calls.specs.declared.answer.Answer.TheVariants as says
 use Rattle.shard_calls.specs.declared.call.Call.TheVariants as calls
 use Rattle.shard_calls.specs.declared.command.Command.TheVariants as commands
-use Rattle.shard_calls.specs.declared.command.CommandAnswer.TheVariants as answers
-use Rattle.shard_calls.specs.declared.command.NotJoined.{NotJoined}
-use Rattle.shard_calls.specs.declared.command.Left.TheVariants as lefts
-use Rattle.shard_calls.specs.declared.command.Unacked.TheVariants as unackeds
-use Rattle.shard_calls.specs.declared.command.Refusal.TheVariants as refusals
+use Rattle.shard_calls.specs.declared.ending.CommandAnswer.TheVariants as answers
+use Rattle.shard_calls.specs.declared.ending.NotJoined.{NotJoined}
+use Rattle.shard_calls.specs.declared.ending.Left.TheVariants as lefts
+use Rattle.shard_calls.specs.declared.refusal.Unacked.TheVariants as unackeds
+use Rattle.shard_calls.specs.declared.refusal.Refusal.TheVariants as refusals
 use Rattle.shard_calls.specs.declared.event.Event.{Event}
 use Rattle.shard_calls.specs.declared.event.Event.TheVariants as events
 use Rattle.shard_calls.specs.declared.event.Reply.{Reply}
 use Rattle.shard_calls.specs.declared.event.Reply.TheVariants as replies
 use Rattle.shard_calls.specs.declared.event.Side.TheVariants as sides
+use Rattle.shard_calls.specs.declared.post.Content.{Content}
+use Rattle.shard_calls.specs.declared.post.Content.TheVariants as contents
+use Rattle.shard_calls.specs.declared.stand.Stand.TheVariants as stands
 use Rattle.shard_calls.specs.declared.stand.Standing.TheVariants as standings
 use Rattle.shard_calls.specs.declared.why.Why.TheVariants as whys
-use Rattle.shard_calls.specs.World.{Config, World, opening, main_name}
+use Rattle.shard_calls.specs.World.{Config, World, opening, main_name, numbered}
 use Rattle.shard_calls.specs.Messages.{may_arrive, offer_to}
 use Rattle.shard_calls.specs.Table.{meets, answer, after}
 
@@ -91,7 +97,7 @@ commerce = record { keyspace = codes "commerce"; shard = codes "0" }
 
 abbrev events_of_reparent : List Event
 events_of_reparent =
-    events.Begin main_name (commands.Planned commerce z100)
+    events.Begin main_name (commands.Planned commerce (Some z100) None None None false)
     ∷ events.Take 1
     ∷ events.Read 1
     ∷ events.Intend 1 z100
@@ -116,7 +122,7 @@ abbrev replies_of_reparent : List Reply
 replies_of_reparent =
     replies.Begun 1
     ∷ replies.Term 1
-    ∷ replies.Seen (record { recorded = None; last_intent = None })
+    ∷ replies.Read (record { recorded = None; intent = None; drained = [] })
     ∷ replies.Ok
     ∷ replies.Message 1
     ∷ replies.Message 2
@@ -212,14 +218,14 @@ write_settled = refl
 abbrev events_of_cut : List Event
 events_of_cut =
     events.Cut sides.Control (sides.Tablet z100)
-    ∷ events.Begin main_name (commands.Planned commerce z100)
+    ∷ events.Begin main_name (commands.Planned commerce (Some z100) None None None false)
     ∷ events.Take 1
     ∷ events.Read 1
     ∷ events.Intend 1 z100
     ∷ events.Send 1 z100 (calls.Promote nothing)
     ∷ events.GiveUp 1 1
     ∷ events.Release 1
-    ∷ events.End 1 (answers.Refused (refusals.Unreachable z100 whys.Cut))
+    ∷ events.End 1 (answers.Refused (refusals.Unreachable z100 whys.Cut) None)
     ∷ []
 
 cut_replies :
@@ -227,7 +233,7 @@ cut_replies :
     ≡ replies.Ok
     ∷ replies.Begun 1
     ∷ replies.Term 1
-    ∷ replies.Seen (record { recorded = None; last_intent = None })
+    ∷ replies.Read (record { recorded = None; intent = None; drained = [] })
     ∷ replies.Ok
     ∷ replies.Message 1
     ∷ replies.GaveUp whys.Cut
@@ -266,7 +272,7 @@ no_restart = refl
 
 abbrev events_of_wait : ℕ → List Event
 events_of_wait ms =
-    events.Begin (codes "p") (commands.Planned commerce z100)
+    events.Begin (codes "p") (commands.Planned commerce (Some z100) None None None false)
     ∷ events.Take 1
     ∷ events.Read 1
     ∷ events.Intend 1 z100
@@ -280,7 +286,7 @@ after_wait ms = world_after_events three (opening three) (events_of_wait ms)
 
 abbrev events_of_late : List Event
 events_of_late =
-    events.GiveUp 1 1 ∷ events.Release 1 ∷ events.End 1 (answers.Refused (refusals.Unreachable z100 (whys.TimedOut start (start + 15000)))) ∷ []
+    events.GiveUp 1 1 ∷ events.Release 1 ∷ events.End 1 (answers.Refused (refusals.Unreachable z100 (whys.TimedOut start (start + 15000))) None) ∷ []
 
 too_late : all_met three (after_wait 15000) events_of_late ≡ true
 too_late = refl
@@ -299,7 +305,7 @@ abbrev events_of_left : List Event
 events_of_left =
     events.Local z101
     ∷ events.Crash z102 0
-    ∷ events.Begin main_name (commands.Planned commerce z100)
+    ∷ events.Begin main_name (commands.Planned commerce (Some z100) None None None false)
     ∷ events.Take 1
     ∷ events.Read 1
     ∷ events.Intend 1 z100
@@ -339,7 +345,7 @@ left_unsaid = refl
 
 abbrev events_of_kept : List Event
 events_of_kept =
-    events.Begin main_name (commands.Planned commerce z100)
+    events.Begin main_name (commands.Planned commerce (Some z100) None None None false)
     ∷ events.Take 1
     ∷ events.Read 1
     ∷ events.Intend 1 z100
@@ -351,7 +357,7 @@ events_of_kept =
     ∷ events.Deliver 1
     ∷ events.Deliver 3
     ∷ events.Release 1
-    ∷ events.End 1 (answers.Refused (refusals.NotAcknowledged z100 (unackeds.Kept standings.Stopped)))
+    ∷ events.End 1 (answers.Refused (refusals.NotAcknowledged z100 (unackeds.Kept standings.Stopped)) None)
     ∷ []
 
 kept_met : all_met three (opening three) events_of_kept ≡ true
@@ -388,7 +394,7 @@ known_is_told = refl
 -- the first answer settles a call, and a later one changes nothing
 abbrev events_of_again : List Event
 events_of_again =
-    events.Begin main_name (commands.Planned commerce z100)
+    events.Begin main_name (commands.Planned commerce (Some z100) None None None false)
     ∷ events.Take 1
     ∷ events.Read 1
     ∷ events.Intend 1 z100
@@ -399,7 +405,7 @@ events_of_again =
     ∷ events.Deliver 1
     ∷ events.Deliver 2
     ∷ events.Release 1
-    ∷ events.End 1 (answers.Refused (refusals.Unreachable z100 whys.Cut))
+    ∷ events.End 1 (answers.Refused (refusals.Unreachable z100 whys.Cut) None)
     ∷ []
 
 again_met : all_met three (opening three) events_of_again ≡ true
@@ -427,7 +433,7 @@ semi = two_under policies.SemiSync
 
 abbrev events_of_waiting : List Event
 events_of_waiting =
-    events.Begin (codes "p") (commands.Planned commerce z100)
+    events.Begin (codes "p") (commands.Planned commerce (Some z100) None None None false)
     ∷ events.Take 1
     ∷ events.Read 1
     ∷ events.Intend 1 z100
@@ -488,8 +494,102 @@ events_of_not_told =
     ∷ events.Deliver 5
     ∷ events.Deliver 6
     ∷ events.Release 1
-    ∷ events.End 1 (answers.Refused (refusals.NotAcknowledged z100 (unackeds.NotTold start (start + 16000))))
+    ∷ events.End 1 (answers.Refused (refusals.NotAcknowledged z100 (unackeds.NotTold start (start + 16000))) None)
     ∷ []
 
 not_told_met : all_met semi after_waiting events_of_not_told ≡ true
 not_told_met = refl
+
+-- ---- a stopped tablet feeds another one of its term
+
+-- zone1-101 alone has a write of term 1
+abbrev events_of_ahead : List Event
+events_of_ahead =
+    events.Begin main_name (commands.Write None)
+    ∷ events.Write 2 z100
+    ∷ events.Tell 2
+    ∷ events.End 2 (answers.Committed (gtid_of 0 2) z100 1)
+    ∷ events.Offer z101
+    ∷ events.Deliver 13
+    ∷ events.Deliver 14
+    ∷ events.Crash z100 0
+    ∷ []
+
+abbrev all_written : Position
+all_written = of_gtids (gtid_of 0 1 ∷ gtid_of 0 2 ∷ [])
+
+abbrev events_of_feed : List Event
+events_of_feed =
+    events.Begin main_name (commands.Planned commerce (Some z101) None None (Some 5000) false)
+    ∷ events.Take 3
+    ∷ events.Send 3 z102 calls.Feed
+    ∷ events.Deliver 15
+    ∷ events.Send 3 z101 calls.Stop
+    ∷ events.Send 3 z102 calls.Stop
+    ∷ events.Deliver 17
+    ∷ events.Deliver 18
+    ∷ events.Send 3 z101 calls.Feed
+    ∷ events.Deliver 21
+    ∷ events.Send 3 z102 (calls.SetSource z101 2 all_written)
+    ∷ events.Deliver 23
+    ∷ events.Send 3 z102 (calls.WaitFor all_written (start + 5000))
+    ∷ []
+
+abbrev after_feed : World
+after_feed = world_after_events three after_settle (events_of_ahead ++ events_of_feed)
+
+feed_met : all_met three after_settle (events_of_ahead ++ events_of_feed) ≡ true
+feed_met = refl
+
+feeder_is : (after_feed.tablets z101).stand ≡ stands.Feeder 2
+feeder_is = refl
+
+-- what message n of a world carries
+abbrev carried : World → ℕ → Option Content
+carried w n = numbered w.post n >>= (λ m. Some m.content)
+
+-- a tablet that has not stopped keeps its stand
+feeds_not : carried after_feed 16 ≡ Some (contents.Answers 3 15 z102 (says.Kept (stands.Replica z100 1 2)))
+feeds_not = refl
+
+-- the feeder passes over its row, which the replica has
+needs_second : carried (after three after_feed (events.Offer z102)) 26 ≡ Some (contents.Feeds z101 z102 2 1 2 (record { gtid = gtid_of 0 2; kind = kinds.Write 1 0 1 }))
+needs_second = refl
+
+-- who waits for the position is answered once it is there
+waits_for_it : meets three after_feed (events.Deliver 25) ≡ false
+waits_for_it = refl
+
+abbrev after_fed : World
+after_fed = world_after_events three after_feed (events.Offer z102 ∷ events.Deliver 26 ∷ events.Deliver 25 ∷ [])
+
+fed_met : all_met three after_feed (events.Offer z102 ∷ events.Deliver 26 ∷ events.Deliver 25 ∷ []) ≡ true
+fed_met = refl
+
+has_it : carried after_fed 28 ≡ Some (contents.Answers 3 25 z102 says.Holds)
+has_it = refl
+
+needs_no_more : offer_to after_fed z102 ≡ None
+needs_no_more = refl
+
+-- or when its moment has come; no other limit ends it
+has_it_not :
+    carried (world_after_events three after_feed (events.Tick 5000 ∷ events.Deliver 25 ∷ [])) 26
+    ≡ Some (contents.Answers 3 25 z102 (says.NotCaughtUp (of_gtids (gtid_of 0 2 ∷ []))))
+has_it_not = refl
+
+waits_on : meets three (after three after_feed (events.Tick 16000)) (events.GiveUp 3 25) ≡ false
+waits_on = refl
+
+-- the command's own time limit is that of its calls, and is a day at most
+gives_up_late : meets three (world_after_events three after_feed (events.Send 3 z102 calls.Status ∷ events.Tick 5000 ∷ [])) (events.GiveUp 3 26) ≡ true
+gives_up_late = refl
+
+gives_up_not_before : meets three (world_after_events three after_feed (events.Send 3 z102 calls.Status ∷ events.Tick 4999 ∷ [])) (events.GiveUp 3 26) ≡ false
+gives_up_not_before = refl
+
+a_day : meets three (opening three) (events.Begin main_name (commands.Planned commerce None None None (Some 86400000) false)) ≡ true
+a_day = refl
+
+no_longer : meets three (opening three) (events.Begin main_name (commands.Planned commerce None None None (Some 86400001) false)) ≡ false
+no_longer = refl

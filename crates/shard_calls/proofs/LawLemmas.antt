@@ -1,8 +1,9 @@
 -- That the definitions are moves, and what a refusal changes.
-use Rattle.std.proofs.Common.{◌≡◌, ℕ, ◌≤◌, ◌<◌, Bool, true, false, refl, ap, arith, cond, ◌||◌, ◌==◌, nat_lt, Option, Some, None}
+use Rattle.std.proofs.Common.{◌≡◌, ℕ, ◌≤◌, ◌<◌, Bool, true, false, refl, ap, sym, subst, arith, cond, ◌&&◌, ◌||◌, ◌==◌, nat_lt, Option, Some, None}
 use Rattle.std.proofs.lemmas.Bool.Decides.{nat_tests}
 use Rattle.shard_names.specs.declared.alias.Alias.{Alias}
 use Rattle.shard_names.specs.declared.tablet.Tablet.{Tablet}
+use Rattle.shard_names.proofs.TabletLemmas.{both_right}
 use Rattle.gtid_sets.specs.declared.entry.Entry.{Entry}
 use Rattle.gtid_sets.specs.declared.entry.Kind.TheVariants as kind
 use Rattle.gtid_sets.specs.Position.{Position, covers}
@@ -16,9 +17,9 @@ use Rattle.shard_calls.specs.declared.stand.Stand.{Stand}
 use Rattle.shard_calls.specs.declared.stand.Stand.TheVariants as stand
 use Rattle.replication.specs.Acks.{raised}
 use Rattle.shard_calls.specs.Groups.{Group}
-use Rattle.shard_calls.specs.Stands.{is_down, is_primary_of, is_replica_in, primary_term, takes_from}
-use Rattle.shard_calls.specs.Logs.{position_of, has_row, newest_row, newest_row_names, row_or_zero}
-use Rattle.shard_calls.specs.Tablets.{TabletState, Verdict, only_says, in_term, stops, demotes, promotes, joins, waits_told, verdict, after_call, accepts, after_ack, writes_own}
+use Rattle.shard_calls.specs.Stands.{is_down, is_stopped, is_primary_of, is_replica_in, is_feeder_in, primary_term, takes_from}
+use Rattle.gtid_sets.specs.Logs.{position_of, has_row, newest_row, newest_row_names, row_or_zero}
+use Rattle.shard_calls.specs.Tablets.{TabletState, Verdict, only_says, in_term, stops, demotes, promotes, joins, feeds, waits_for_position, waits_told, verdict, after_call, accepts, after_ack, writes_own}
 use Rattle.shard_calls.specs.Moves.{TabletMove, Stays, Sees, Promises, Enters, Takes, Writes, Hears, GoesDown, ComesUp}
 use Rattle.shard_calls.specs.Laws.{AreMoves, FitsTerm, IsRefusal, RefusalChangesSeenAlone, StaleTermIsRefused}
 
@@ -69,12 +70,25 @@ join_moves u source t p s fits later =
     (λ inside. Promises u t (stand.Replica source t 1) later (let more : s.promised ≤ t = grind (arith, nat_tests) in more) fits (refl, refl))
     (λ errant. Sees u later)))
 
+feed_moves : (u : ℕ) (s : TabletState) → s.seen ≤ u → TabletMove s (feeds u (seeing s u)).state
+feed_moves u s later =
+    chosen (λ v. TabletMove s v.state) (is_feeder_in s.stand u) _ _
+    (λ feeder. Sees u later)
+    (λ other. chosen (λ v. TabletMove s v.state) (is_stopped s.stand && (s.promised == u)) _ _
+    (λ stopped. of_term (let test = both_right (is_stopped s.stand) (s.promised == u) stopped in grind (arith, nat_tests)))
+    (λ keeps. Sees u later))
+  where
+    of_term : s.promised ≡ u → TabletMove s (record s { seen = u; stand = stand.Feeder u })
+    of_term is = subst (λ (n : ℕ). TabletMove s (record s { seen = u; promised = n; stand = stand.Feeder u })) (sym is) (Promises u u (stand.Feeder u) later (omega (arith, is)) (omega arith) refl)
+
 call_moves : (g : Group) (me : Tablet) (u : ℕ) (c : Call) (s : TabletState) → FitsTerm u c → s.promised ≤ s.seen → TabletMove s (after_call g me u c s)
 call_moves g me u call.Status s fits low = Stays
 call_moves g me u call.Stop s fits low = in_term_moves u s (stops u) (λ later. stop_moves u s (omega arith) later)
 call_moves g me u call.Demote s fits low = in_term_moves u s (demotes me u) (λ later. demote_moves me u s (omega arith) later)
 call_moves g me u (call.Promote p) s fits low = in_term_moves u s (promotes me u p) (λ later. promote_moves me u p s (omega arith) later)
 call_moves g me u (call.SetSource source t p) s fits low = in_term_moves u s (joins source t p) (λ later. join_moves u source t p s fits later)
+call_moves g me u call.Feed s fits low = in_term_moves u s (feeds u) (λ later. feed_moves u s later)
+call_moves g me u (call.WaitFor p until) s fits low = in_term_moves u s (waits_for_position p) (λ later. Sees u later)
 call_moves g me u (call.WaitTold until) s fits low = in_term_moves u s (waits_told g me u) (λ later. Sees u later)
 
 -- ---- the others are moves
@@ -88,6 +102,7 @@ taken_from (stand.Demoted t by) from term after h = absurd (cc)
 taken_from (stand.Replica source t next) from term after h =
     let same : t ≡ term = grind (arith, nat_tests) in
     (source, next, ap (λ (u : ℕ). stand.Replica source u next) same)
+taken_from (stand.Feeder t) from term after h = absurd (cc)
 
 entry_moves : (from : Alias) (term after index : ℕ) (e : Entry) (s : TabletState) → row_or_zero e ≤ term → TabletMove s (accepts from term after index e s).state
 entry_moves from term after index e s low =
@@ -137,6 +152,10 @@ refused_alone g me u (call.SetSource source t p) s = alone_in_term u s (joins so
     (chosen (SeenAlone s) (nat_lt t s.promised) _ _ (λ e r. refl)
     (λ e. chosen (SeenAlone s) (is_primary_of s.stand t || is_replica_in s.stand t) _ _ (λ e r. refl)
     (λ e. chosen (SeenAlone s) (covers p (position_of s.log)) _ _ (λ e r. absurd r) (λ e r. refl))))
+refused_alone g me u call.Feed s = alone_in_term u s (feeds u)
+    (chosen (SeenAlone s) (is_feeder_in s.stand u) _ _ (λ e r. absurd r)
+    (λ e. chosen (SeenAlone s) (is_stopped s.stand && (s.promised == u)) _ _ (λ e r. absurd r) (λ e r. refl)))
+refused_alone g me u (call.WaitFor p until) s = alone_in_term u s (waits_for_position p) (λ r. refl)
 refused_alone g me u (call.WaitTold until) s = alone_in_term u s (waits_told g me u) (λ r. refl)
 
 pub refusal_changes_seen_alone : RefusalChangesSeenAlone
@@ -153,4 +172,6 @@ stale_term_is_refused g me u call.Stop s asks old = stale u s (stops u) old
 stale_term_is_refused g me u call.Demote s asks old = stale u s (demotes me u) old
 stale_term_is_refused g me u (call.Promote p) s asks old = stale u s (promotes me u p) old
 stale_term_is_refused g me u (call.SetSource source t p) s asks old = stale u s (joins source t p) old
+stale_term_is_refused g me u call.Feed s asks old = stale u s (feeds u) old
+stale_term_is_refused g me u (call.WaitFor p until) s asks old = stale u s (waits_for_position p) old
 stale_term_is_refused g me u (call.WaitTold until) s asks old = stale u s (waits_told g me u) old

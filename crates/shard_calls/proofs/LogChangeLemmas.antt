@@ -1,5 +1,5 @@
 -- How one step changes the log of a tablet: not at all, or by one entry at its end.
-use Rattle.std.proofs.Common.{◌≡◌, ℕ, ◌≤◌, Bool, true, false, refl, ap, sym, subst, ◌∙◌, arith, List, [], ◌∷◌, ◌++◌, cond, ◌||◌, ◌==◌, nat_lt, Option, Some, None, length, length-append}
+use Rattle.std.proofs.Common.{◌≡◌, ℕ, ◌≤◌, Bool, true, false, refl, ap, sym, subst, ◌∙◌, arith, List, [], ◌∷◌, ◌++◌, cond, ◌&&◌, ◌||◌, ◌==◌, nat_lt, Option, Some, None, length, length-append}
 use Rattle.shard_names.specs.declared.alias.Alias.{Alias}
 use Rattle.shard_names.specs.declared.tablet.Tablet.{Tablet}
 use Rattle.shard_names.specs.Tablets.{tablet_of}
@@ -16,9 +16,9 @@ use Rattle.shard_calls.specs.declared.outcome.Written.{Written}
 use Rattle.shard_calls.specs.declared.outcome.Written.TheVariants as written
 use Rattle.shard_calls.specs.declared.post.Content.TheVariants as contents
 use Rattle.shard_calls.specs.declared.post.Message.{Message}
-use Rattle.shard_calls.specs.Stands.{is_down, is_primary_of, is_replica_in, primary_term, takes_from}
-use Rattle.shard_calls.specs.Logs.{position_of, holds, has_row, row_term, with_own, newest_row_names}
-use Rattle.shard_calls.specs.Tablets.{TabletState, Verdict, only_says, in_term, stops, demotes, promotes, joins, waits_told, after_call, writes_own}
+use Rattle.shard_calls.specs.Stands.{is_down, is_stopped, is_primary_of, is_replica_in, is_feeder_in, primary_term, takes_from}
+use Rattle.gtid_sets.specs.Logs.{position_of, holds, has_row, row_term, with_own, newest_row_names}
+use Rattle.shard_calls.specs.Tablets.{TabletState, Verdict, only_says, in_term, stops, demotes, promotes, joins, feeds, waits_for_position, waits_told, after_call, writes_own}
 use Rattle.shard_calls.specs.World.{Config, World, numbered}
 use Rattle.shard_calls.specs.Promotions.{IsNewIn}
 use Rattle.shard_calls.proofs.LawLemmas.{chosen}
@@ -74,6 +74,12 @@ call_changes config w a k c u (calls.SetSource source t p) me m here carries fou
     (chosen (OfVerdict config w a (events.Deliver k)) (nat_lt t (w.tablets a).promised) _ _ (λ ahead. SameLog)
     (λ fresh. chosen (OfVerdict config w a (events.Deliver k)) (is_primary_of (w.tablets a).stand t || is_replica_in (w.tablets a).stand t) _ _ (λ kept. SameLog)
     (λ other. chosen (OfVerdict config w a (events.Deliver k)) (covers p (position_of (w.tablets a).log)) _ _ (λ inside. SameLog) (λ errant. SameLog))))
+call_changes config w a k c u calls.Feed me m here carries found =
+    in_term_changes config w a (events.Deliver k) u (feeds u)
+    (chosen (OfVerdict config w a (events.Deliver k)) (is_feeder_in (w.tablets a).stand u) _ _ (λ feeder. SameLog)
+    (λ other. chosen (OfVerdict config w a (events.Deliver k)) (is_stopped (w.tablets a).stand && ((w.tablets a).promised == u)) _ _ (λ stopped. SameLog) (λ keeps. SameLog)))
+call_changes config w a k c u (calls.WaitFor p until) me m here carries found =
+    in_term_changes config w a (events.Deliver k) u (waits_for_position p) SameLog
 call_changes config w a k c u (calls.WaitTold until) me m here carries found =
     in_term_changes config w a (events.Deliver k) u (waits_told w.group me u) SameLog
 

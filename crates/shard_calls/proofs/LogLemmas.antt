@@ -6,7 +6,7 @@ use Rattle.gtid_sets.specs.declared.entry.Entry.{Entry}
 use Rattle.gtid_sets.specs.Gtid.{gtid_eq}
 use Rattle.gtid_sets.specs.Position.{with_gtid, has, greatest}
 use Rattle.gtid_sets.proofs.PositionLemmas.{has-with_gtid, has-of_gtids, same_members}
-use Rattle.shard_calls.specs.Logs.{gtids_of, position_of, holds, row_or_zero, is_row_of, has_row, newest_row}
+use Rattle.gtid_sets.specs.Logs.{gtids_of, position_of, holds, row_or_zero, is_row_of, has_row, newest_row}
 
 -- ---- the greatest of something over the entries
 pub greatest-push : (f : Entry → ℕ) (log : List Entry) (e : Entry) → greatest (map f (log ++ e ∷ [])) ≡ max (greatest (map f log)) (f e)

@@ -7,7 +7,7 @@ use Rattle.gtid_sets.specs.declared.entry.Entry.{Entry}
 use Rattle.shard_calls.specs.declared.stand.Stand.{Stand}
 use Rattle.shard_calls.specs.declared.stand.Stand.TheVariants as stand
 use Rattle.shard_calls.specs.Stands.{waits_for}
-use Rattle.shard_calls.specs.Logs.{holds, with_entry, row_term, row_or_zero, has_row, is_row_of, newest_row}
+use Rattle.gtid_sets.specs.Logs.{holds, with_entry, row_term, row_or_zero, has_row, is_row_of, newest_row}
 use Rattle.shard_calls.specs.Tablets.{TabletState}
 use Rattle.shard_calls.specs.Moves.{TabletMove, TabletMoves, ComesOfPromise, Stays, Sees, Promises, Enters, Takes, Writes, Hears, GoesDown, ComesUp, Rests, Goes}
 use Rattle.shard_calls.specs.Laws.{PromiseNeverFalls, SeenNeverFalls, LogOnlyGrows, IsPromised, HasItsRow, RowsWithin, WaitsForEntry, IsSound, KeepsSound, AlwaysSound}
@@ -102,6 +102,7 @@ promised_by log promised stand.Stopped h = tt
 promised_by log promised (stand.Primary t) h = absurd h
 promised_by log promised (stand.Demoted t by) h = h.0
 promised_by log promised (stand.Replica source t next) h = h.0
+promised_by log promised (stand.Feeder t) h = h
 
 within_by : (log : List Entry) (promised : ℕ) (to : Stand) → ComesOfPromise log promised to → RowsWithin log to
 within_by log promised stand.Down h = absurd h
@@ -109,6 +110,7 @@ within_by log promised stand.Stopped h = tt
 within_by log promised (stand.Primary t) h = absurd h
 within_by log promised (stand.Demoted t by) h = let newest = h.1 in omega (arith, newest)
 within_by log promised (stand.Replica source t next) h = tt
+within_by log promised (stand.Feeder t) h = tt
 
 waits_by : (log : List Entry) (promised : ℕ) (to : Stand) → ComesOfPromise log promised to → WaitsForEntry to
 waits_by log promised stand.Down h = absurd h
@@ -116,6 +118,7 @@ waits_by log promised stand.Stopped h = tt
 waits_by log promised (stand.Primary t) h = absurd h
 waits_by log promised (stand.Demoted t by) h = tt
 waits_by log promised (stand.Replica source t next) h = let first = h.1 in omega (arith, first)
+waits_by log promised (stand.Feeder t) h = tt
 
 no_primary : (promised : ℕ) (log : List Entry) (to : Stand) → ComesOfPromise log promised to → HasItsRow log to
 no_primary promised log stand.Down h = absurd h
@@ -123,6 +126,7 @@ no_primary promised log stand.Stopped h = tt
 no_primary promised log (stand.Primary t) h = absurd h
 no_primary promised log (stand.Demoted t by) h = tt
 no_primary promised log (stand.Replica source t next) h = tt
+no_primary promised log (stand.Feeder t) h = tt
 
 or_right : (a b : Bool) → b ≡ true → (a || b) ≡ true
 or_right true b h = refl
@@ -139,6 +143,7 @@ row_stays log e stand.Stopped h = tt
 row_stays log e (stand.Primary t) h = has_row-push log e t ∙ or_right (is_row_of t e) (has_row log t) h
 row_stays log e (stand.Demoted t by) h = tt
 row_stays log e (stand.Replica source t next) h = tt
+row_stays log e (stand.Feeder t) h = tt
 
 pub own_row : (log : List Entry) (e : Entry) (term : ℕ) → row_term e.kind ≡ Some term → has_row (log ++ e ∷ []) term ≡ true
 own_row log e term is =
@@ -162,6 +167,7 @@ within_stays log e stand.Stopped none h = tt
 within_stays log e (stand.Primary t) none h = tt
 within_stays log e (stand.Demoted t by) none h = within log e t h (omega (arith, none))
 within_stays log e (stand.Replica source t next) none h = tt
+within_stays log e (stand.Feeder t) none h = tt
 
 no_row : (o : Option ℕ) (promised : ℕ) → o ≡ None → unwrap_or o 0 ≤ promised
 no_row o promised none = rw none (omega arith)

@@ -13,7 +13,7 @@ use Rattle.gtid_sets.specs.declared.entry.Kind.TheVariants as kinds
 use Rattle.topo_lock.specs.declared.intent.Intent.{Intent}
 use Rattle.topo_lock.specs.Topology.{Topology, fresh, intent_of}
 use Rattle.topo_lock.specs.Moves.{TopoMove, TopoMoves, Rests, Goes}
-use Rattle.topo_lock.proofs.MoveLemmas.{term_never_falls_over_steps, intents_stay_over_steps, intent_of_term_stays_over_steps, one_intent_a_term}
+use Rattle.topo_lock.proofs.MoveLemmas.{term_never_falls_over_steps, intent_of_term_stays_over_steps, one_intent_a_term}
 use Rattle.shard_calls.specs.declared.answer.Answer.TheVariants as says
 use Rattle.shard_calls.specs.declared.call.Call.TheVariants as calls
 use Rattle.shard_calls.specs.declared.event.Event.{Event}
@@ -28,7 +28,7 @@ use Rattle.shard_calls.specs.declared.state.CommandState.{CommandState}
 use Rattle.shard_calls.specs.declared.state.Wrote.{Wrote}
 use Rattle.shard_calls.specs.declared.stand.Stand.TheVariants as stands
 use Rattle.shard_calls.specs.Stands.{is_primary_of}
-use Rattle.shard_calls.specs.Logs.{row_term, is_row_of, has_row}
+use Rattle.gtid_sets.specs.Logs.{row_term, is_row_of, has_row}
 use Rattle.shard_calls.specs.Groups.{Group}
 use Rattle.shard_calls.specs.Tablets.{TabletState, answer_to, is_row_told}
 use Rattle.shard_calls.specs.Laws.{HasItsRow}
@@ -36,12 +36,12 @@ use Rattle.shard_calls.specs.World.{Config, IsConfig, World, opening, numbered, 
 use Rattle.shard_calls.specs.Messages.{is_told_at}
 use Rattle.shard_calls.specs.Writes.{tell_of, tell_reply}
 use Rattle.shard_calls.specs.Table.{after, IsStep, IsRunFrom, IsRun, world_after}
-use Rattle.shard_calls.specs.Promotions.{world_at, IsNewIn, IsPromotion, OnePromotion, PromotesIntended, TellsAt, ToWrite, ToWait, HoldsTold, IsWriteOf, IsToldBy, told_at, KeepsTold}
+use Rattle.shard_calls.specs.Promotions.{world_at, IsNewIn, IsPromotion, OnePromotion, PromotesIntended, TellsAt, ToWrite, ToWait, IsWriteOf, IsToldBy, told_at, KeepsTold}
 use Rattle.shard_calls.specs.Answered.{AnswersHaveCauses, first_of, first_settling, OutcomesAreSteps}
 use Rattle.shard_calls.specs.RunLaws.{OfEveryShard, OneEntry, LogsAreClosed, AcksAreHeld, NotedIsHeld, OfEveryRun, TabletsMove, TopologyMoves, TabletsAreSound, TermNeverFalls, OneIntent, LogsOnlyGrow}
-use Rattle.shard_calls.specs.declared.command.CommandAnswer.{CommandAnswer}
-use Rattle.shard_calls.specs.declared.command.CommandAnswer.TheVariants as ends
-use Rattle.shard_calls.specs.declared.command.NotJoined.{NotJoined}
+use Rattle.shard_calls.specs.declared.ending.CommandAnswer.{CommandAnswer}
+use Rattle.shard_calls.specs.declared.ending.CommandAnswer.TheVariants as ends
+use Rattle.shard_calls.specs.declared.ending.NotJoined.{NotJoined}
 use Rattle.gtid_sets.specs.declared.gtid.Gtid.{Gtid}
 use Rattle.shard_calls.specs.Causes.{has_cause}
 use Rattle.shard_calls.proofs.ActLemmas.{if_open_is}
@@ -51,7 +51,7 @@ use Rattle.shard_calls.proofs.ToldLemmas.{IsTellingWorld, telling_after, telling
 use Rattle.shard_calls.proofs.LawLemmas.{chosen}
 use Rattle.shard_calls.proofs.TouchLemmas.{touched, topo_moves}
 use Rattle.shard_calls.proofs.LogChangeLemmas.{LogChange, SameLog, RowEnters, EntryComes, OwnEntry, log_changes, stays, last_is, no_row}
-use Rattle.shard_calls.proofs.WorldLemmas.{IsIntended, Fits, IsSoundWorld, get_front}
+use Rattle.shard_calls.proofs.WorldLemmas.{IsIntended, intends_it, Fits, IsSoundWorld, get_front}
 use Rattle.shard_calls.proofs.EntryLemmas.{or_left, or_right, held_gtid, IsUniqueWorld, one_entry, unique_after, unique_opening}
 use Rattle.shard_calls.proofs.ClosureLemmas.{Says, IsClosedWorld}
 use Rattle.shard_calls.proofs.ClosedLemmas.{closed_after, closed_opening}
@@ -194,7 +194,7 @@ promotion_comes config ss i u a before run p =
     (log_changes config (world_at config ss i) a p.step.event _ (touched config (world_at config ss i) p.step.event a)) p.new p.is_row
 
 pub promotes_intended : OfEveryRun PromotesIntended
-promotes_intended config steps run i u a before p = (promotion_comes config steps i u a before run p).intended.intent
+promotes_intended config steps run i u a before p = intends_it _ u a (promotion_comes config steps i u a before run p).intended
 
 -- ---- each term promotes once
 
@@ -265,6 +265,7 @@ own_row log stands.Stopped t is row = absurd (false≢true is)
 own_row log (stands.Primary u) t is row = let same : u ≡ t = grind (arith, nat_tests) in subst (λ (v : ℕ). has_row log v ≡ true) same row
 own_row log (stands.Demoted u by) t is row = absurd (false≢true is)
 own_row log (stands.Replica source u next) t is row = absurd (false≢true is)
+own_row log (stands.Feeder u) t is row = absurd (false≢true is)
 
 -- where a tablet stands as the primary of a term, this term came first of all
 primary_first : (w : World) (a : Alias) (t : ℕ) → IsSoundWorld w → is_primary_of (w.tablets a).stand t ≡ true → (c : Alias) × IsIntended w.topo t c
@@ -431,7 +432,9 @@ tells_in : (config : Config) (w : World) (c : ℕ) (x : CommandAnswer) (a : Alia
 tells_in config w c (ends.Promoted b t left) a truth h is =
     let same : b ≡ a = (let some : Some b ≡ Some a = is in cc) in
     subst (λ (d : Alias). TellsIn (ends.Promoted b t left) (w.tablets d).log) same (promoted_in config w c b t left truth.sound truth.telling h)
-tells_in config w c (ends.Refused refusal) a truth h is = absurd (let none : None ≡ Some a = is in cc)
+tells_in config w c (ends.NothingToDo b) a truth h is = absurd (let none : None ≡ Some a = is in cc)
+tells_in config w c (ends.Recorded t) a truth h is = absurd (let none : None ≡ Some a = is in cc)
+tells_in config w c (ends.Refused refusal tried) a truth h is = absurd (let none : None ≡ Some a = is in cc)
 tells_in config w c (ends.Committed g b t) a truth h is =
     let same : b ≡ a = (let some : Some b ≡ Some a = is in cc) in
     subst (λ (d : Alias). TellsIn (ends.Committed g b t) (w.tablets d).log) same (committed_in config w c g b t truth.wrote h)

@@ -1,5 +1,5 @@
 -- What a step keeps of a world in which all is sound.
-use Rattle.std.proofs.Common.{◌≡◌, ◌⊎◌, inl, inr, ℕ, zero, suc, ◌+◌, ◌-◌, ◌≤◌, max, Bool, true, false, not, ◌&&◌, ◌||◌, ◌==◌, refl, ap, sym, subst, ◌∙◌, arith, List, [], ◌∷◌, ◌++◌, cond, drop, Option, Some, None, length, unwrap_or, map}
+use Rattle.std.proofs.Common.{◌≡◌, ◌⊎◌, inl, inr, ℕ, zero, suc, ◌+◌, ◌-◌, ◌≤◌, max, Bool, true, false, not, ◌&&◌, ◌||◌, refl, ap, sym, subst, ◌∙◌, arith, List, [], ◌∷◌, ◌++◌, cond, drop, Option, Some, None, length, unwrap_or, map}
 use Rattle.std.proofs.lemmas.Bool.{false≢true}
 use Rattle.std.proofs.lemmas.Bool.Decides.{nat_tests}
 use Rattle.std.specs.List.{slice_get}
@@ -11,7 +11,7 @@ use Rattle.shard_names.proofs.TabletLemmas.{both_left, both_right, alias_eq_is}
 use Rattle.gtid_sets.specs.declared.entry.Entry.{Entry}
 use Rattle.gtid_sets.specs.declared.entry.Kind.{Kind}
 use Rattle.gtid_sets.specs.declared.entry.Kind.TheVariants as kinds
-use Rattle.gtid_sets.specs.Position.{Position, count, greatest}
+use Rattle.gtid_sets.specs.Position.{Position, greatest}
 use Rattle.topo_lock.specs.Topology.{Topology}
 use Rattle.topo_lock.specs.Moves.{Goes}
 use Rattle.shard_calls.specs.declared.call.Call.{Call}
@@ -23,12 +23,12 @@ use Rattle.shard_calls.specs.declared.post.Message.{Message}
 use Rattle.shard_calls.specs.declared.stand.Stand.{Stand}
 use Rattle.shard_calls.specs.declared.stand.Stand.TheVariants as stands
 use Rattle.shard_calls.specs.declared.state.CommandState.{CommandState}
-use Rattle.shard_calls.specs.Logs.{row_term, row_or_zero, newest_row, place_of_row, holds, with_own, next_gtid}
+use Rattle.gtid_sets.specs.Logs.{row_term, row_or_zero, newest_row, holds, with_own, next_gtid}
 use Rattle.shard_calls.specs.Tablets.{TabletState}
 use Rattle.shard_calls.specs.Moves.{TabletMove, Stays}
 use Rattle.shard_calls.specs.Laws.{IsSound, IsPromised, RowsWithin, WaitsForEntry}
 use Rattle.shard_calls.specs.World.{Config, World, numbered, open_command, term_in, is_eligible_alias}
-use Rattle.shard_calls.specs.Messages.{feeds_term, Indexed, needed_from, needed, may_feed, is_cut, is_under_way, link_between, feed_of, offered_by, has_come_to}
+use Rattle.shard_calls.specs.Messages.{feeds_term, Indexed, needed_from, sends_all_from, needed, may_feed, is_cut, is_under_way, link_between, feed_of, offered_by, has_come_to}
 use Rattle.shard_calls.specs.Evidence.{intends, has_ground}
 use Rattle.shard_calls.specs.Locks.{by_term}
 use Rattle.shard_calls.specs.Deliveries.{may_send, may_ask_in, asks_status}
@@ -78,6 +78,8 @@ asked_in config w c a (calls.Promote p) u sound met =
     let front : (is_eligible_alias config a && intends w.topo u a) ≡ true = both_left (is_eligible_alias config a && intends w.topo u a) (has_ground config w c u p) met in
     intended_by w.topo u a (both_right (is_eligible_alias config a) (intends w.topo u a) front)
 asked_in config w c a (calls.SetSource source t p) u sound met = grind (arith, nat_tests)
+asked_in config w c a calls.Feed u sound met = tt
+asked_in config w c a (calls.WaitFor p until) u sound met = tt
 asked_in config w c a (calls.WaitTold until) u sound met = tt
 
 no_term : (topo : Topology) (a : Alias) (call : Call) → asks_status call ≡ true → AskFits topo 0 a call
@@ -86,6 +88,8 @@ no_term topo a calls.Stop is = absurd (false≢true is)
 no_term topo a calls.Demote is = absurd (false≢true is)
 no_term topo a (calls.Promote p) is = absurd (false≢true is)
 no_term topo a (calls.SetSource source t p) is = absurd (false≢true is)
+no_term topo a calls.Feed is = absurd (false≢true is)
+no_term topo a (calls.WaitFor p until) is = absurd (false≢true is)
 no_term topo a (calls.WaitTold until) is = absurd (false≢true is)
 
 asked_term : (config : Config) (w : World) (c : ℕ) (a : Alias) (call : Call) (t : Option ℕ) → IsSoundWorld w
@@ -120,7 +124,7 @@ needed_is from row held (e ∷ es) x h = of_test (not (holds held e.gtid) || has
 
 pub needed_held : (source replica : TabletState) (n : ℕ) (x : Indexed) → 1 ≤ n → needed source replica n ≡ Some x → numbered source.log x.index ≡ Some x.entry
 needed_held source replica n x first h =
-    let r = needed_is n (place_of_row source.log (newest_row source.log)) replica.log (drop (n - 1) source.log) x h in
+    let r = needed_is n (sends_all_from source) replica.log (drop (n - 1) source.log) x h in
     let index = r.1 in
     let place : x.index ≡ suc (n - 1 + r.0) = omega (arith, index) in
     subst (λ (k : ℕ). numbered source.log k ≡ Some x.entry) (sym place) (get_drop (n - 1) source.log r.0 x.entry r.2)
@@ -149,6 +153,9 @@ feeds_within s (stands.Demoted u by) t is feeds sound =
     let within : newest_row s.log ≤ u = subst (λ (x : Stand). RowsWithin s.log x) is sound.demoted in
     let same : u ≡ t = grind (arith, nat_tests) in omega (arith, within, same)
 feeds_within s (stands.Replica source u next) t is feeds sound = absurd (false≢true feeds)
+feeds_within s (stands.Feeder u) t is feeds sound =
+    let promised : u ≡ s.promised = subst (λ (x : Stand). IsPromised s.promised x) is sound.stands in
+    let same : u ≡ t = grind (arith, nat_tests) in omega (arith, promised, same, sound.rows)
 
 fed_fits : (w : World) (s r : Alias) (t n : ℕ) (content : Content) (o : Option Indexed) → IsSoundWorld w → 1 ≤ n → feeds_term (w.tablets s).stand t ≡ true
     → needed (w.tablets s) (w.tablets r) n ≡ o → (o >>= (λ x. Some (feed_of s r t n x))) ≡ Some content → Fits w content
@@ -173,6 +180,7 @@ offered_fits w r stands.Down content sound is h = absurd (let none : None ≡ So
 offered_fits w r stands.Stopped content sound is h = absurd (let none : None ≡ Some content = h in cc)
 offered_fits w r (stands.Primary t) content sound is h = absurd (let none : None ≡ Some content = h in cc)
 offered_fits w r (stands.Demoted t by) content sound is h = absurd (let none : None ≡ Some content = h in cc)
+offered_fits w r (stands.Feeder t) content sound is h = absurd (let none : None ≡ Some content = h in cc)
 offered_fits w r (stands.Replica s t n) content sound is h =
     let first : 1 ≤ n = subst (λ (x : Stand). WaitsForEntry x) is (sound.tablets r).waits in
     may_feed_fits w s r t n content (may_feed w s r t n) sound first refl h

@@ -1,5 +1,5 @@
 -- What an answer tells is in the log of its tablet: an answer Promoted says that the row is there, and what a command wrote stands where it was written.
-use Rattle.std.proofs.Common.{◌≡◌, inl, inr, ℕ, zero, suc, Bool, true, false, ◌||◌, ◌==◌, nat_lt, refl, ap, sym, subst, ◌∙◌, List, [], ◌∷◌, ◌++◌, cond, Option, Some, None}
+use Rattle.std.proofs.Common.{◌≡◌, inl, inr, ℕ, zero, suc, Bool, true, false, ◌&&◌, ◌||◌, ◌==◌, nat_lt, refl, ap, sym, subst, ◌∙◌, List, [], ◌∷◌, ◌++◌, cond, Option, Some, None}
 use Rattle.std.proofs.lemmas.Bool.{false≢true}
 use Rattle.shard_base.specs.Lists.{IsFront}
 use Rattle.shard_base.specs.Options.{◌>>=◌, only_if}
@@ -8,7 +8,7 @@ use Rattle.shard_names.specs.declared.tablet.Tablet.{Tablet}
 use Rattle.shard_names.specs.Tablets.{tablet_of}
 use Rattle.shard_names.proofs.TabletLemmas.{alias_eq_itself}
 use Rattle.gtid_sets.specs.declared.entry.Entry.{Entry}
-use Rattle.gtid_sets.specs.Position.{Position, covers}
+use Rattle.gtid_sets.specs.Position.{Position, covers, minus}
 use Rattle.shard_calls.specs.declared.answer.Answer.{Answer}
 use Rattle.shard_calls.specs.declared.answer.Answer.TheVariants as answers
 use Rattle.shard_calls.specs.declared.call.Call.{Call}
@@ -22,10 +22,10 @@ use Rattle.shard_calls.specs.declared.post.Settled.{Settled}
 use Rattle.shard_calls.specs.declared.post.Settled.TheVariants as settleds
 use Rattle.shard_calls.specs.declared.stand.Stand.{Stand}
 use Rattle.shard_calls.specs.declared.stand.Stand.TheVariants as stands
-use Rattle.shard_calls.specs.Stands.{is_primary_of, is_replica_in}
-use Rattle.shard_calls.specs.Logs.{position_of, has_row, newest_row_names}
+use Rattle.shard_calls.specs.Stands.{is_stopped, is_primary_of, is_replica_in, is_feeder_in}
+use Rattle.gtid_sets.specs.Logs.{position_of, has_row, newest_row_names}
 use Rattle.shard_calls.specs.Groups.{Group}
-use Rattle.shard_calls.specs.Tablets.{TabletState, Verdict, is_row_told, in_term, stops, demotes, promotes, joins, waits_told, after_call, answer_to}
+use Rattle.shard_calls.specs.Tablets.{TabletState, Verdict, is_row_told, in_term, stops, demotes, promotes, joins, feeds, waits_for_position, waits_told, after_call, answer_to}
 use Rattle.shard_calls.specs.World.{Config, World, opening, on_message, arrives, numbered}
 use Rattle.shard_calls.specs.Messages.{Indexed, needed, may_feed, feed_of, offered_by}
 use Rattle.shard_calls.specs.Deliveries.{if_declared, asked, after_arrival, after_delivery}
@@ -46,6 +46,8 @@ RowIfPromoted log u (answers.Stopped newest position) = Unit {0}
 RowIfPromoted log u (answers.Demoted newest position) = Unit {0}
 RowIfPromoted log u (answers.Promoted position) = has_row log u ≡ true
 RowIfPromoted log u answers.Joined = Unit {0}
+RowIfPromoted log u answers.Feeding = Unit {0}
+RowIfPromoted log u answers.Holds = Unit {0}
 RowIfPromoted log u answers.Told = Unit {0}
 RowIfPromoted log u answers.NotTold = Unit {0}
 RowIfPromoted log u (answers.Kept at) = Unit {0}
@@ -99,6 +101,8 @@ row_if_longer xs ys u (answers.Stopped newest position) front h = tt
 row_if_longer xs ys u (answers.Demoted newest position) front h = tt
 row_if_longer xs ys u (answers.Promoted position) front h = row_longer xs ys u front h
 row_if_longer xs ys u answers.Joined front h = tt
+row_if_longer xs ys u answers.Feeding front h = tt
+row_if_longer xs ys u answers.Holds front h = tt
 row_if_longer xs ys u answers.Told front h = tt
 row_if_longer xs ys u answers.NotTold front h = tt
 row_if_longer xs ys u (answers.Kept at) front h = tt
@@ -143,6 +147,10 @@ told_truth true true log u at = tt
 told_truth true false log u at = tt
 told_truth false c log u at = tt
 
+held_truth : (b : Bool) (log : List Entry) (u : ℕ) (lacks : Position) → RowIfPromoted log u (cond b answers.Holds (answers.NotCaughtUp lacks))
+held_truth true log u lacks = tt
+held_truth false log u lacks = tt
+
 pub call_truth : (g : Group) (me : Tablet) (u : ℕ) (call : Call) (s : TabletState) → RowIfPromoted (after_call g me u call s).log u (answer_to g me u call s)
 call_truth g me u calls.Status s = tt
 call_truth g me u calls.Stop s = in_term_truth u s (stops u) tt
@@ -158,6 +166,11 @@ call_truth g me u (calls.SetSource source t p) s =
     (chosen (Truth u) (nat_lt t s.promised) _ _ (λ ahead. tt)
     (λ fresh. chosen (Truth u) (is_primary_of s.stand t || is_replica_in s.stand t) _ _ (λ stays. tt)
     (λ other. chosen (Truth u) (covers p (position_of s.log)) _ _ (λ inside. tt) (λ errant. tt))))
+call_truth g me u calls.Feed s =
+    in_term_truth u s (feeds u)
+    (chosen (Truth u) (is_feeder_in s.stand u) _ _ (λ feeder. tt) (λ other. chosen (Truth u) (is_stopped s.stand && (s.promised == u)) _ _ (λ stopped. tt) (λ keeps. tt)))
+call_truth g me u (calls.WaitFor p until) s =
+    in_term_truth u s (waits_for_position p) (held_truth (covers (position_of s.log) p) s.log u (minus p (position_of s.log)))
 call_truth g me u (calls.WaitTold until) s =
     in_term_truth u s (waits_told g me u) (told_truth (is_primary_of s.stand u) (is_row_told g me s u) s.log u s.stand)
 
@@ -186,6 +199,7 @@ offer_is_none w r stands.Down content c asked from says h is = let none : None �
 offer_is_none w r stands.Stopped content c asked from says h is = let none : None ≡ Some content = h in cc
 offer_is_none w r (stands.Primary t) content c asked from says h is = let none : None ≡ Some content = h in cc
 offer_is_none w r (stands.Demoted t by) content c asked from says h is = let none : None ≡ Some content = h in cc
+offer_is_none w r (stands.Feeder t) content c asked from says h is = let none : None ≡ Some content = h in cc
 offer_is_none w r (stands.Replica s t n) content c asked from says h is = of_test (may_feed w s r t n) h
   where
     of_test : (b : Bool) → (only_if b n >>= (λ m. needed (w.tablets s) (w.tablets r) m >>= (λ x. Some (feed_of s r t n x)))) ≡ Some content → ⊥

@@ -1,25 +1,24 @@
 -- What holds of each world of a run: each tablet is sound, each message fits, and each row in a log is of the one intent of its term and stands in
 -- the log of the tablet that it names.
-use Rattle.std.proofs.Common.{◌≡◌, ℕ, zero, suc, ◌≤◌, ◌<◌, Bool, true, false, not, ◌||◌, ◌==◌, nat_lt, refl, ap, sym, subst, ◌∙◌, arith, List, [], ◌∷◌, cond, Option, Some, None}
+use Rattle.std.proofs.Common.{◌≡◌, ℕ, zero, suc, ◌≤◌, Bool, true, false, ◌==◌, refl, ap, sym, subst, ◌∙◌, arith, List, [], ◌∷◌, cond, Option, Some, None}
 use Rattle.std.proofs.lemmas.Bool.{false≢true}
 use Rattle.std.proofs.lemmas.Bool.Decides.{nat_tests}
-use Rattle.std.specs.List.{slice_get, find, list_any, AllByRecursion}
+use Rattle.std.specs.List.{slice_get, find, AllByRecursion}
 use Rattle.shard_base.specs.Lists.{IsFront}
 use Rattle.shard_names.specs.declared.alias.Alias.{Alias}
-use Rattle.shard_names.proofs.TabletLemmas.{alias_eq_is}
+use Rattle.shard_names.proofs.TabletLemmas.{alias_eq_is, alias_eq_itself}
 use Rattle.gtid_sets.specs.declared.entry.Entry.{Entry}
 use Rattle.gtid_sets.specs.declared.entry.Kind.TheVariants as kinds
 use Rattle.topo_lock.specs.declared.intent.Intent.{Intent}
 use Rattle.topo_lock.specs.Topology.{Topology, fresh, intent_of}
 use Rattle.topo_lock.specs.Moves.{TopoMove, TopoMoves}
-use Rattle.topo_lock.specs.Laws.{TermsRise}
-use Rattle.topo_lock.proofs.MoveLemmas.{intents_stay, intent_of_term_stays, intents_are_in_order}
+use Rattle.topo_lock.proofs.MoveLemmas.{intent_of_term_stays}
 use Rattle.shard_calls.specs.declared.call.Call.{Call}
 use Rattle.shard_calls.specs.declared.call.Call.TheVariants as calls
 use Rattle.shard_calls.specs.declared.post.Content.{Content}
 use Rattle.shard_calls.specs.declared.post.Content.TheVariants as contents
 use Rattle.shard_calls.specs.declared.post.Message.{Message}
-use Rattle.shard_calls.specs.Logs.{row_or_zero}
+use Rattle.gtid_sets.specs.Logs.{row_or_zero}
 use Rattle.shard_calls.specs.Laws.{IsSound, FitsTerm}
 use Rattle.shard_calls.specs.World.{World, numbered}
 use Rattle.shard_calls.specs.Evidence.{is_alias_of, intends}
@@ -42,6 +41,8 @@ AskFits topo u a calls.Stop = Unit {0}
 AskFits topo u a calls.Demote = Unit {0}
 AskFits topo u a (calls.Promote p) = IsIntended topo u a
 AskFits topo u a (calls.SetSource source t p) = t ≤ u
+AskFits topo u a calls.Feed = Unit {0}
+AskFits topo u a (calls.WaitFor p until) = Unit {0}
 AskFits topo u a (calls.WaitTold until) = Unit {0}
 
 -- an entry on its way is that of its source's log, and no row of a later term
@@ -86,6 +87,8 @@ ask_stays s t u a calls.Stop move h = h
 ask_stays s t u a calls.Demote move h = h
 ask_stays s t u a (calls.Promote p) move h = intended_stays s t u a move h
 ask_stays s t u a (calls.SetSource source term p) move h = h
+ask_stays s t u a calls.Feed move h = h
+ask_stays s t u a (calls.WaitFor p until) move h = h
 ask_stays s t u a (calls.WaitTold until) move h = h
 
 pub fits_stays : (w v : World) (content : Content) → IsLater w v → Fits w content → Fits v content
@@ -110,6 +113,8 @@ ask_term topo u a calls.Stop h = tt
 ask_term topo u a calls.Demote h = tt
 ask_term topo u a (calls.Promote p) h = tt
 ask_term topo u a (calls.SetSource source t p) h = h
+ask_term topo u a calls.Feed h = tt
+ask_term topo u a (calls.WaitFor p until) h = tt
 ask_term topo u a (calls.WaitTold until) h = tt
 
 -- ---- the first intent
@@ -149,3 +154,7 @@ intent_found (Some i) topo u a found is =
 -- what the evidence says of the intent
 pub intended_by : (topo : Topology) (u : ℕ) (a : Alias) → intends topo u a ≡ true → IsIntended topo u a
 intended_by topo u a is = record { intent = intent_found (intent_of topo u) topo u a refl is }
+
+-- and what is intended is evidence
+pub intends_it : (topo : Topology) (u : ℕ) (a : Alias) → IsIntended topo u a → intends topo u a ≡ true
+intends_it topo u a h = ap (λ (o : Option Intent). is_alias_of o a) h.intent ∙ alias_eq_itself a

@@ -19,7 +19,7 @@ use Rattle.shard_calls.specs.declared.outcome.Written.TheVariants as writtens
 use Rattle.shard_calls.specs.declared.state.CommandState.{CommandState}
 use Rattle.shard_calls.specs.declared.state.Wrote.{Wrote}
 use Rattle.shard_calls.specs.Stands.{primary_term}
-use Rattle.shard_calls.specs.Logs.{with_own, next_gtid}
+use Rattle.gtid_sets.specs.Logs.{with_own, next_gtid}
 use Rattle.shard_calls.specs.Tablets.{TabletState, Verdict, only_says, writes, writes_own}
 use Rattle.shard_calls.specs.World.{Config, World, opening, numbered, changed_at, with_act, open_command, term_of}
 use Rattle.shard_calls.specs.Messages.{why_given_up, offer_to}

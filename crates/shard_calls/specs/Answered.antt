@@ -1,7 +1,7 @@
 -- What the answers of a history rest on, read off its steps. After the answers of PlannedReparentShard (Vitess manual).
 use Rattle.std.specs.Prelude.{◌≡◌, ℕ, true, ◌==◌, List, Option, Some, None, if◌then◌else◌, slice_get, filter_map, [], ◌∷◌}
 use Rattle.shard_names.specs.declared.alias.Alias.{Alias}
-use Rattle.shard_calls.specs.declared.command.CommandAnswer.{CommandAnswer}
+use Rattle.shard_calls.specs.declared.ending.CommandAnswer.{CommandAnswer}
 use Rattle.shard_calls.specs.declared.event.Event.{Event}
 use Rattle.shard_calls.specs.declared.event.Event.TheVariants as events
 use Rattle.shard_calls.specs.declared.event.Reply.{Reply}
@@ -28,7 +28,7 @@ taken_by_reply (replies.Taken term by) = Some (acts.Taken term by)
 taken_by_reply _ = None
 
 abbrev pub read_by_reply : Reply → Option Act
-read_by_reply (replies.Seen seen) = Some (acts.Read seen)
+read_by_reply (replies.Read seen) = Some (acts.Read seen)
 read_by_reply (replies.Lost term) = Some (acts.Lost term)
 read_by_reply _ = None
 

@@ -1,5 +1,5 @@
 -- Begin and End: how an actor comes to a command, and leaves it. Commands are those of vtctldclient (Vitess manual).
-use Rattle.std.specs.Prelude.{ℕ, ◌+◌, Bool, true, false, List, [], ◌∷◌, ◌++◌, Option, Some, None, length, slice_get}
+use Rattle.std.specs.Prelude.{ℕ, ◌+◌, Bool, true, false, List, [], ◌∷◌, ◌++◌, Option, Some, None, nat_le, length, slice_get}
 use Rattle.shard_base.specs.Options.{◌>>=◌}
 use Rattle.shard_names.specs.Tablets.{is_declared}
 use Rattle.shard_calls.specs.declared.command.Command.{Command}
@@ -7,20 +7,28 @@ use Rattle.shard_calls.specs.declared.command.Command.TheVariants as commands
 use Rattle.shard_calls.specs.declared.state.ActorState.{ActorState}
 use Rattle.shard_calls.specs.declared.state.CommandState.{CommandState}
 use Rattle.shard_calls.specs.declared.state.Shown.{Shown}
-use Rattle.shard_calls.specs.Logs.{position_of}
+use Rattle.gtid_sets.specs.Logs.{position_of}
 use Rattle.shard_calls.specs.Tablets.{TabletState}
+use Rattle.shard_calls.specs.Locks.{seen_of}
+use Rattle.shard_calls.specs.Messages.{timeout_of}
 use Rattle.shard_calls.specs.World.{Config, World, on_command, idle_actor, changed, place_of, open_command}
 
 -- ---- Begin: by an actor who has no open command, at declared tablets
 
 abbrev pub writes_by : Command → ℕ
-writes_by (commands.Planned shard new_primary) = 0
+writes_by (commands.Planned shard new_primary avoid expected timeout allow_cross_cell) = 0
+writes_by (commands.External a) = 0
 writes_by (commands.Write to) = 1
 writes_by (commands.Show a) = 0
 
+-- it waits a day for an answer at most
+abbrev pub is_in_time : Command → Bool
+is_in_time command = nat_le (timeout_of command) 86400000
+
 -- a tablet that a command writes at or shows is declared
 abbrev pub names_declared : Config → Command → Bool
-names_declared config (commands.Planned shard new_primary) = true
+names_declared config (commands.Planned shard new_primary avoid expected timeout allow_cross_cell) = true
+names_declared config (commands.External a) = true
 names_declared config (commands.Write None) = true
 names_declared config (commands.Write (Some a)) = is_declared config.tablets a
 names_declared config (commands.Show a) = is_declared config.tablets a
@@ -58,7 +66,8 @@ abbrev pub shown_of : TabletState → Shown
 shown_of s = record { stand = s.stand; position = position_of s.log }
 
 abbrev pub shown_by : World → Command → Option Shown
-shown_by w (commands.Planned shard new_primary) = None
+shown_by w (commands.Planned shard new_primary avoid expected timeout allow_cross_cell) = None
+shown_by w (commands.External a) = None
 shown_by w (commands.Write to) = None
 shown_by w (commands.Show a) = Some (shown_of (w.tablets a))
 
@@ -68,8 +77,7 @@ begun_state w name command = record {
   actor = name;
   client = client_of w.actors name;
   number = number_of w.actors name command;
-  primary = w.topo.recorded;
-  shown = shown_by w command;
+  opening = record { seen = seen_of w.topo; shown = shown_by w command };
   term = None;
   released = false;
   ended = false;

@@ -16,15 +16,15 @@ use Rattle.shard_calls.specs.declared.call.Call.{Call}
 use Rattle.shard_calls.specs.declared.call.Call.TheVariants as calls
 use Rattle.shard_calls.specs.declared.command.Command.{Command}
 use Rattle.shard_calls.specs.declared.command.Command.TheVariants as commands
-use Rattle.shard_calls.specs.declared.command.CommandAnswer.{CommandAnswer}
-use Rattle.shard_calls.specs.declared.command.CommandAnswer.TheVariants as answers
-use Rattle.shard_calls.specs.declared.command.Left.{Left}
-use Rattle.shard_calls.specs.declared.command.Left.TheVariants as lefts
-use Rattle.shard_calls.specs.declared.command.NotJoined.{NotJoined}
-use Rattle.shard_calls.specs.declared.command.Refusal.{Refusal}
-use Rattle.shard_calls.specs.declared.command.Refusal.TheVariants as refusals
-use Rattle.shard_calls.specs.declared.command.Bar.TheVariants as bars
-use Rattle.shard_calls.specs.declared.command.Unacked.TheVariants as unackeds
+use Rattle.shard_calls.specs.declared.ending.CommandAnswer.{CommandAnswer}
+use Rattle.shard_calls.specs.declared.ending.CommandAnswer.TheVariants as answers
+use Rattle.shard_calls.specs.declared.ending.Left.{Left}
+use Rattle.shard_calls.specs.declared.ending.Left.TheVariants as lefts
+use Rattle.shard_calls.specs.declared.ending.NotJoined.{NotJoined}
+use Rattle.shard_calls.specs.declared.refusal.Refusal.{Refusal}
+use Rattle.shard_calls.specs.declared.refusal.Refusal.TheVariants as refusals
+use Rattle.shard_calls.specs.declared.refusal.Bar.TheVariants as bars
+use Rattle.shard_calls.specs.declared.refusal.Unacked.TheVariants as unackeds
 use Rattle.shard_calls.specs.declared.post.Message.{Message}
 use Rattle.shard_calls.specs.declared.stand.Standing.{Standing}
 use Rattle.shard_calls.specs.declared.stand.Standing.TheVariants as standings
@@ -57,6 +57,7 @@ standing_eq standings.Stopped standings.Stopped = true
 standing_eq (standings.Primary t) (standings.Primary u) = t == u
 standing_eq (standings.Demoted t by) (standings.Demoted u other) = (t == u) && (by == other)
 standing_eq (standings.Replica a t) (standings.Replica b u) = alias_eq a b && (t == u)
+standing_eq (standings.Feeder t) (standings.Feeder u) = t == u
 standing_eq x y = false
 
 abbrev pub left_eq : Left → Left → Bool
@@ -94,7 +95,7 @@ says_lost t _ = false
 
 -- an intent of this term was read
 abbrev pub says_intent : ℕ → Act → Bool
-says_intent t (acts.Read seen) = is_of_term t seen.last_intent
+says_intent t (acts.Read seen) = is_of_term t seen.intent
 says_intent t _ = false
 
 abbrev pub says_recorded : Alias → Act → Bool
@@ -109,6 +110,8 @@ is_promote calls.Stop = false
 is_promote calls.Demote = false
 is_promote (calls.Promote p) = true
 is_promote (calls.SetSource source t p) = false
+is_promote calls.Feed = false
+is_promote (calls.WaitFor p until) = false
 is_promote (calls.WaitTold until) = false
 
 abbrev pub is_wait_told : Call → Bool
@@ -117,6 +120,8 @@ is_wait_told calls.Stop = false
 is_wait_told calls.Demote = false
 is_wait_told (calls.Promote p) = false
 is_wait_told (calls.SetSource source t p) = false
+is_wait_told calls.Feed = false
+is_wait_told (calls.WaitFor p until) = false
 is_wait_told (calls.WaitTold until) = true
 
 abbrev pub is_set_source : Call → Bool
@@ -125,6 +130,8 @@ is_set_source calls.Stop = false
 is_set_source calls.Demote = false
 is_set_source (calls.Promote p) = false
 is_set_source (calls.SetSource source t p) = true
+is_set_source calls.Feed = false
+is_set_source (calls.WaitFor p until) = false
 is_set_source (calls.WaitTold until) = false
 
 -- a call for want of which a reparent is refused
@@ -175,7 +182,18 @@ left_by (Some (GivenUp why)) = Some (lefts.GivenUp why)
 left_by (Some (Answered (says.Errant extra))) = Some (lefts.Errant extra)
 left_by (Some (Answered (says.StaleTerm seen))) = Some (lefts.StaleTerm seen)
 left_by (Some (Answered (says.PromisedAhead promised))) = Some (lefts.PromisedAhead promised)
-left_by (Some (Answered _)) = None
+left_by (Some (Answered says.Joined)) = None
+left_by (Some (Answered (says.Kept stand))) = None
+left_by (Some (Answered (says.Status seen promised stand newest p))) = None
+left_by (Some (Answered (says.Stopped newest p))) = None
+left_by (Some (Answered (says.Demoted newest p))) = None
+left_by (Some (Answered (says.Promoted p))) = None
+left_by (Some (Answered says.Feeding)) = None
+left_by (Some (Answered says.Holds)) = None
+left_by (Some (Answered says.Told)) = None
+left_by (Some (Answered says.NotTold)) = None
+left_by (Some (Answered (says.NotCaughtUp missing))) = None
+left_by (Some (Answered (says.NotStanding newest))) = None
 
 abbrev pub not_joined : Sending → Option NotJoined
 not_joined s = elim (is_set_source s.call) [ true ↦ left_by s.outcome >>= (λ left. Some (record { alias = s.to; left = left })) | false ↦ None ]
@@ -187,48 +205,63 @@ leaves_out post a left (act ∷ later) = (says_recorded a act && not_joined_eq l
 
 -- ---- the causes
 
--- of the refusals of a PlannedReparentShard to this tablet
-abbrev pub has_refusal_cause : Config → Alias → List Act → List Sending → Refusal → Bool
-has_refusal_cause config new_primary done sent (refusals.LockTaken t by) = list_any (says_taken t by) done
-has_refusal_cause config new_primary done sent (refusals.LockLost t) = list_any (says_lost t) done
-has_refusal_cause config new_primary done sent (refusals.NoSuchTablet a) = alias_eq new_primary a && not (is_declared config.tablets new_primary)
-has_refusal_cause config new_primary done sent (refusals.NotEligible a bars.MustNot) =
-    alias_eq new_primary a && is_declared config.tablets new_primary && not (is_eligible_alias config new_primary)
-has_refusal_cause config new_primary done sent (refusals.Unreachable a why) = came_to is_needed a (is_given_up why) sent
-has_refusal_cause config new_primary done sent (refusals.NotCaughtUp a missing since now) =
+-- the command was given this tablet
+abbrev pub is_given : Option Alias → Alias → Bool
+is_given None a = false
+is_given (Some b) a = alias_eq b a
+
+-- Of the refusals of a PlannedReparentShard to this tablet. Those that are false come with the whole course.
+abbrev pub has_refusal_cause : Config → Option Alias → List Act → List Sending → Refusal → Bool
+has_refusal_cause config given done sent (refusals.LockTaken t by) = list_any (says_taken t by) done
+has_refusal_cause config given done sent (refusals.LockLost t) = list_any (says_lost t) done
+has_refusal_cause config given done sent (refusals.NoSuchTablet a) = is_given given a && not (is_declared config.tablets a)
+has_refusal_cause config given done sent (refusals.NotEligible a bars.MustNot) =
+    is_given given a && is_declared config.tablets a && not (is_eligible_alias config a)
+has_refusal_cause config given done sent (refusals.NotEligible a bars.Drained) = false
+has_refusal_cause config given done sent (refusals.NotEligible a bars.Ignored) = false
+has_refusal_cause config given done sent (refusals.ExpectedPrimary recorded) = false
+has_refusal_cause config given done sent refusals.BothGiven = false
+has_refusal_cause config given done sent (refusals.ReparentPending a t) = false
+has_refusal_cause config given done sent (refusals.Unreachable a why) = came_to is_needed a (is_given_up why) sent
+has_refusal_cause config given done sent (refusals.NoCandidate reasons) = false
+has_refusal_cause config given done sent (refusals.NotCaughtUp a missing since now) =
     list_any (λ s. is_promote s.call && alias_eq s.to a && is_short_of missing s.outcome && (s.sent == since) && is_some_of s.arrived now) sent
-has_refusal_cause config new_primary done sent (refusals.StaleTerm a seen) = came_to is_needed a (is_stale seen) sent
-has_refusal_cause config new_primary done sent (refusals.NotAcknowledged a (unackeds.Kept at)) = came_to is_needed a (is_kept at) sent
-has_refusal_cause config new_primary done sent (refusals.NotAcknowledged a (unackeds.NotTold since now)) =
+has_refusal_cause config given done sent (refusals.StaleTerm a seen) = came_to is_needed a (is_stale seen) sent
+has_refusal_cause config given done sent (refusals.NotRevoked a unreached) = false
+has_refusal_cause config given done sent (refusals.CannotEstablish a have need) = false
+has_refusal_cause config given done sent (refusals.SplitBrain a has_a b has_b) = false
+has_refusal_cause config given done sent (refusals.CrossCell a) = false
+has_refusal_cause config given done sent (refusals.NotAcknowledged a (unackeds.Kept at)) = came_to is_needed a (is_kept at) sent
+has_refusal_cause config given done sent (refusals.NotAcknowledged a (unackeds.NotTold since now)) =
     list_any (λ s. is_wait_told s.call && alias_eq s.to a && is_not_told s.outcome && (s.sent == since) && is_some_of s.arrived now) sent
-has_refusal_cause config new_primary done sent (refusals.NotBuilt t) = list_any (says_intent t) done
-has_refusal_cause config new_primary done sent refusals.OutOfMemory = true
+has_refusal_cause config given done sent (refusals.Errant a extra) = false
+has_refusal_cause config given done sent (refusals.NotPromoted a newest) = false
+has_refusal_cause config given done sent (refusals.NotBuilt t) = list_any (says_intent t) done
+has_refusal_cause config given done sent refusals.OutOfMemory = true
 
 -- Of a PlannedReparentShard to this tablet. Promoted is the tablet whose promotion, in the term that the command took, was answered so and counts
 -- as committed, and which the command recorded.
-abbrev pub has_planned_cause : Config → World → Alias → CommandState → CommandAnswer → Bool
-has_planned_cause config w new_primary s (answers.Promoted a t left) =
+abbrev pub has_planned_cause : Config → World → Option Alias → CommandState → CommandAnswer → Bool
+has_planned_cause config w given s (answers.Promoted a t left) =
     is_some_of s.term t && came_to_in t is_promote a is_promoted (sendings w.post s.acts) && came_to_in t is_wait_told a is_told_so (sendings w.post s.acts)
     && leaves_out w.post a left s.acts
-has_planned_cause config w new_primary s (answers.Refused refusal) = has_refusal_cause config new_primary s.acts (sendings w.post s.acts) refusal
-has_planned_cause config w new_primary s (answers.Committed g a t) = false
-has_planned_cause config w new_primary s (answers.NotPrimary a at) = false
-has_planned_cause config w new_primary s answers.NoPrimaryRecorded = false
-has_planned_cause config w new_primary s (answers.Unknown g a t) = false
-has_planned_cause config w new_primary s (answers.Shown a at p) = false
+has_planned_cause config w given s (answers.NothingToDo a) = false
+has_planned_cause config w given s (answers.Recorded t) = false
+has_planned_cause config w given s (answers.Refused refusal undone) = is_none undone && has_refusal_cause config given s.acts (sendings w.post s.acts) refusal
+has_planned_cause config w given s (answers.Committed g a t) = false
+has_planned_cause config w given s (answers.NotPrimary a at) = false
+has_planned_cause config w given s answers.NoPrimaryRecorded = false
+has_planned_cause config w given s (answers.Unknown g a t) = false
+has_planned_cause config w given s (answers.Shown a at p) = false
 
 -- want of memory needs no other cause
 abbrev pub is_want_of_memory : Refusal → Bool
-is_want_of_memory (refusals.LockTaken t by) = false
-is_want_of_memory (refusals.LockLost t) = false
-is_want_of_memory (refusals.NoSuchTablet a) = false
-is_want_of_memory (refusals.NotEligible a bar) = false
-is_want_of_memory (refusals.Unreachable a why) = false
-is_want_of_memory (refusals.NotCaughtUp a missing since now) = false
-is_want_of_memory (refusals.StaleTerm a seen) = false
-is_want_of_memory (refusals.NotAcknowledged a cause) = false
-is_want_of_memory (refusals.NotBuilt t) = false
 is_want_of_memory refusals.OutOfMemory = true
+is_want_of_memory _ = false
+
+-- a command that tried no undo has run out of memory
+abbrev pub has_no_other_cause : Refusal → Option Bool → Bool
+has_no_other_cause refusal undone = is_none undone && is_want_of_memory refusal
 
 abbrev pub wrote_this : Option Wrote → Gtid → Alias → ℕ → Bool
 wrote_this None g a t = false
@@ -246,11 +279,13 @@ says_not_primary a at _ = false
 abbrev pub has_write_cause : World → Option Alias → CommandState → CommandAnswer → Bool
 has_write_cause w to s (answers.Committed g a t) = wrote_this s.wrote g a t && list_any is_told_act s.acts
 has_write_cause w to s (answers.NotPrimary a at) = list_any (says_not_primary a at) s.acts
-has_write_cause w to s answers.NoPrimaryRecorded = is_none to && is_none s.primary
+has_write_cause w to s answers.NoPrimaryRecorded = is_none to && is_none s.opening.seen.recorded
 has_write_cause w to s (answers.Unknown g a t) =
     wrote_this s.wrote g a t && not (list_any is_told_act s.acts) && not (is_primary_of (w.tablets a).stand t)
 has_write_cause w to s (answers.Promoted a t left) = false
-has_write_cause w to s (answers.Refused refusal) = is_want_of_memory refusal
+has_write_cause w to s (answers.NothingToDo a) = false
+has_write_cause w to s (answers.Recorded t) = false
+has_write_cause w to s (answers.Refused refusal undone) = has_no_other_cause refusal undone
 has_write_cause w to s (answers.Shown a at p) = false
 
 abbrev pub showed : Option Shown → Standing → Position → Bool
@@ -259,16 +294,24 @@ showed (Some x) at p = standing_eq (standing_of x.stand) at && position_eq x.pos
 
 -- of a show of this tablet
 abbrev pub has_show_cause : Alias → CommandState → CommandAnswer → Bool
-has_show_cause shown s (answers.Shown a at p) = alias_eq shown a && showed s.shown at p
-has_show_cause shown s (answers.Refused refusal) = is_want_of_memory refusal
+has_show_cause shown s (answers.Shown a at p) = alias_eq shown a && showed s.opening.shown at p
+has_show_cause shown s (answers.NothingToDo a) = false
+has_show_cause shown s (answers.Recorded t) = false
+has_show_cause shown s (answers.Refused refusal undone) = has_no_other_cause refusal undone
 has_show_cause shown s (answers.Promoted a t left) = false
 has_show_cause shown s (answers.Committed g a t) = false
 has_show_cause shown s (answers.NotPrimary a at) = false
 has_show_cause shown s answers.NoPrimaryRecorded = false
 has_show_cause shown s (answers.Unknown g a t) = false
 
+-- of a TabletExternallyReparented, which has no course yet: want of memory alone
+abbrev pub has_external_cause : CommandAnswer → Bool
+has_external_cause (answers.Refused refusal undone) = has_no_other_cause refusal undone
+has_external_cause _ = false
+
 abbrev pub has_command_cause : Config → World → CommandState → Command → CommandAnswer → Bool
-has_command_cause config w s (commands.Planned shard new_primary) answer = has_planned_cause config w new_primary s answer
+has_command_cause config w s (commands.Planned shard given avoid expected timeout allow_cross_cell) answer = has_planned_cause config w given s answer
+has_command_cause config w s (commands.External a) answer = has_external_cause answer
 has_command_cause config w s (commands.Write to) answer = has_write_cause w to s answer
 has_command_cause config w s (commands.Show a) answer = has_show_cause a s answer
 

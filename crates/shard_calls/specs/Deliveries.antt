@@ -36,6 +36,8 @@ may_ask_in config w c a calls.Stop u = true
 may_ask_in config w c a calls.Demote u = true
 may_ask_in config w c a (calls.Promote p) u = has_evidence config w c u a p
 may_ask_in config w c a (calls.SetSource source t p) u = is_declared config.tablets source && not (alias_eq source a) && nat_le t u
+may_ask_in config w c a calls.Feed u = true
+may_ask_in config w c a (calls.WaitFor p until) u = nat_lt until end_of_time
 may_ask_in config w c a (calls.WaitTold until) u = nat_lt until end_of_time
 
 -- a Status needs no term
@@ -45,6 +47,8 @@ asks_status calls.Stop = false
 asks_status calls.Demote = false
 asks_status (calls.Promote p) = false
 asks_status (calls.SetSource source t p) = false
+asks_status calls.Feed = false
+asks_status (calls.WaitFor p until) = false
 asks_status (calls.WaitTold until) = false
 
 abbrev pub may_send : Config → World → ℕ → Alias → Call → Option CommandState → Bool

@@ -1,8 +1,8 @@
 -- What must stand before a tablet is asked to become the primary of a term: that the term intends it, and a ground on which what it has to hold
 -- is known: that no earlier term intended anything, that the last intended tablet gave up its place, or that a set of tablets stopped that meets
 -- whatever could still be told. After Sougoumarane's "Consensus algorithms at scale".
-use Rattle.std.specs.Prelude.{ℕ, Bool, true, false, not, ◌&&◌, ◌||◌, ◌==◌, nat_lt, List, [], ◌∷◌, filter, filter_map, Option, Some, None, is_some}
-use Rattle.std.specs.List.{find, list_all, list_any}
+use Rattle.std.specs.Prelude.{ℕ, Bool, true, false, not, ◌&&◌, ◌||◌, ◌==◌, nat_lt, List, filter, filter_map, Option, Some, None, is_some}
+use Rattle.std.specs.List.{find, list_all}
 use Rattle.shard_base.specs.Options.{◌>>=◌}
 use Rattle.shard_names.specs.declared.alias.Alias.{Alias}
 use Rattle.shard_names.specs.declared.tablet.Tablet.{Tablet}
@@ -18,9 +18,9 @@ use Rattle.shard_calls.specs.declared.answer.Answer.{Answer}
 use Rattle.shard_calls.specs.declared.answer.Answer.TheVariants as answers
 use Rattle.shard_calls.specs.declared.call.Call.{Call}
 use Rattle.shard_calls.specs.declared.call.Call.TheVariants as calls
-use Rattle.shard_calls.specs.Outcomes.{Outcome, Answered, GivenUp, Sending, sendings}
+use Rattle.shard_calls.specs.Outcomes.{Outcome, Answered, GivenUp, Sending}
 use Rattle.shard_calls.specs.Evidence.{intends, is_first}
-use Rattle.shard_calls.specs.Winner.{Held, winner}
+use Rattle.gtid_sets.specs.Winner.{Held, winner}
 
 -- ---- the outcome of a command's first Stop and of its first Demote
 
@@ -30,6 +30,8 @@ asks_stop calls.Stop = true
 asks_stop calls.Demote = false
 asks_stop (calls.Promote p) = false
 asks_stop (calls.SetSource source t p) = false
+asks_stop calls.Feed = false
+asks_stop (calls.WaitFor p until) = false
 asks_stop (calls.WaitTold until) = false
 
 abbrev pub asks_demote : Call → Bool
@@ -38,6 +40,8 @@ asks_demote calls.Stop = false
 asks_demote calls.Demote = true
 asks_demote (calls.Promote p) = false
 asks_demote (calls.SetSource source t p) = false
+asks_demote calls.Feed = false
+asks_demote (calls.WaitFor p until) = false
 asks_demote (calls.WaitTold until) = false
 
 -- whether it is a call in this term and to this tablet that passes the test
@@ -54,6 +58,8 @@ if_stopped a (answers.Stopped newest position) = Some (record { alias = a; newes
 if_stopped a (answers.Demoted newest position) = None
 if_stopped a (answers.Promoted position) = None
 if_stopped a answers.Joined = None
+if_stopped a answers.Feeding = None
+if_stopped a answers.Holds = None
 if_stopped a answers.Told = None
 if_stopped a answers.NotTold = None
 if_stopped a (answers.Kept at) = None
@@ -69,6 +75,8 @@ if_demoted a (answers.Stopped newest position) = None
 if_demoted a (answers.Demoted newest position) = Some (record { alias = a; newest = newest; position = position })
 if_demoted a (answers.Promoted position) = None
 if_demoted a answers.Joined = None
+if_demoted a answers.Feeding = None
+if_demoted a answers.Holds = None
 if_demoted a answers.Told = None
 if_demoted a answers.NotTold = None
 if_demoted a (answers.Kept at) = None

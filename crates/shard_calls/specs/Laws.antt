@@ -12,7 +12,7 @@ use Rattle.shard_calls.specs.declared.answer.Answer.TheVariants as answer
 use Rattle.shard_calls.specs.declared.stand.Stand.{Stand}
 use Rattle.shard_calls.specs.declared.stand.Stand.TheVariants as stand
 use Rattle.shard_calls.specs.Groups.{Group}
-use Rattle.shard_calls.specs.Logs.{newest_row, has_row, row_or_zero}
+use Rattle.gtid_sets.specs.Logs.{newest_row, has_row, row_or_zero}
 use Rattle.shard_calls.specs.Tablets.{TabletState, opened, verdict, only_says, after_call, answer_to, accepts, after_ack, writes, writes_local, after_crash, restarts}
 use Rattle.shard_calls.specs.Moves.{TabletMove, TabletMoves}
 
@@ -32,13 +32,14 @@ LogOnlyGrows R = (s t : TabletState) → R s t → IsFront s.log t.log
 
 -- ---- what a tablet has promised
 
--- a primary of t and a replica in t have promised t, and what was demoted by u has promised u
+-- a primary of t, a replica in t and a feeder in t have promised t, and what was demoted by u has promised u
 abbrev pub IsPromised : ℕ → Stand → Type 0
 IsPromised promised stand.Down = ⊤
 IsPromised promised stand.Stopped = ⊤
 IsPromised promised (stand.Primary t) = t ≡ promised
 IsPromised promised (stand.Demoted t by) = by ≡ promised
 IsPromised promised (stand.Replica source t next) = t ≡ promised
+IsPromised promised (stand.Feeder t) = t ≡ promised
 
 -- a primary of t has the row of t
 abbrev pub HasItsRow : List Entry → Stand → Type 0
@@ -47,6 +48,7 @@ HasItsRow log stand.Stopped = ⊤
 HasItsRow log (stand.Primary t) = has_row log t ≡ true
 HasItsRow log (stand.Demoted t by) = ⊤
 HasItsRow log (stand.Replica source t next) = ⊤
+HasItsRow log (stand.Feeder t) = ⊤
 
 -- what was demoted in a term has no row of a later one
 abbrev pub RowsWithin : List Entry → Stand → Type 0
@@ -55,6 +57,7 @@ RowsWithin log stand.Stopped = ⊤
 RowsWithin log (stand.Primary t) = ⊤
 RowsWithin log (stand.Demoted t by) = newest_row log ≤ t
 RowsWithin log (stand.Replica source t next) = ⊤
+RowsWithin log (stand.Feeder t) = ⊤
 
 -- the entry that a replica waits for has an index, which counts from 1
 abbrev pub WaitsForEntry : Stand → Type 0
@@ -63,6 +66,7 @@ WaitsForEntry stand.Stopped = ⊤
 WaitsForEntry (stand.Primary t) = ⊤
 WaitsForEntry (stand.Demoted t by) = ⊤
 WaitsForEntry (stand.Replica source t next) = 1 ≤ next
+WaitsForEntry (stand.Feeder t) = ⊤
 
 pub record IsSound (s : TabletState) : Type 0 where
   pub seen : s.promised ≤ s.seen
@@ -89,6 +93,8 @@ FitsTerm u call.Stop = ⊤
 FitsTerm u call.Demote = ⊤
 FitsTerm u (call.Promote p) = ⊤
 FitsTerm u (call.SetSource source t p) = t ≤ u
+FitsTerm u call.Feed = ⊤
+FitsTerm u (call.WaitFor p until) = ⊤
 FitsTerm u (call.WaitTold until) = ⊤
 
 pub record AreMoves : Type 0 where
@@ -108,6 +114,8 @@ IsRefusal (answer.Stopped newest position) = ⊥
 IsRefusal (answer.Demoted newest position) = ⊥
 IsRefusal (answer.Promoted position) = ⊥
 IsRefusal answer.Joined = ⊥
+IsRefusal answer.Feeding = ⊥
+IsRefusal answer.Holds = ⊥
 IsRefusal answer.Told = ⊥
 IsRefusal answer.NotTold = ⊤
 IsRefusal (answer.Kept at) = ⊤
@@ -130,6 +138,8 @@ IsAsking call.Stop = ⊤
 IsAsking call.Demote = ⊤
 IsAsking (call.Promote p) = ⊤
 IsAsking (call.SetSource source t p) = ⊤
+IsAsking call.Feed = ⊤
+IsAsking (call.WaitFor p until) = ⊤
 IsAsking (call.WaitTold until) = ⊤
 
 -- a term below the one seen is refused, and changes nothing

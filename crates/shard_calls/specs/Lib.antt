@@ -1,4 +1,3 @@
-pub mod Logs
 pub mod Stands
 pub mod Groups
 pub mod Tablets
@@ -17,5 +16,4 @@ pub mod Table
 pub mod Promotions
 pub mod RunLaws
 pub mod Answered
-pub mod Winner
 pub mod Grounds

@@ -6,6 +6,7 @@ use Rattle.topo_lock.specs.Topology.{Topology, is_held_in, last_intent, answer_t
 use Rattle.topo_lock.specs.declared.lock.LockTaken.{LockTaken}
 use Rattle.topo_lock.specs.declared.lock.TopoFault.{TopoFault}
 use Rattle.topo_lock.specs.declared.lock.TopoFault.TheVariants as faults
+use Rattle.shard_calls.specs.declared.event.Seen.{Seen}
 use Rattle.shard_calls.specs.declared.event.Reply.{Reply}
 use Rattle.shard_calls.specs.declared.event.Reply.TheVariants as replies
 use Rattle.shard_calls.specs.declared.state.Act.{Act}
@@ -42,11 +43,15 @@ abbrev pub by_term : {A : Type 0} → Option ℕ → A → (ℕ → A) → A
 by_term None none some = none
 by_term (Some t) none some = some t
 
+-- what stands in the topology
+abbrev pub seen_of : Topology → Seen
+seen_of topo = record { recorded = topo.recorded; intent = last_intent topo; drained = topo.drained }
+
 abbrev pub read_reply : Topology → ℕ → Reply
-read_reply topo t = if is_held_in topo t then replies.Seen (record { recorded = topo.recorded; last_intent = last_intent topo }) else replies.Lost topo.term
+read_reply topo t = if is_held_in topo t then replies.Read (seen_of topo) else replies.Lost topo.term
 
 abbrev pub read_act : Topology → ℕ → Act
-read_act topo t = if is_held_in topo t then acts.Read (record { recorded = topo.recorded; last_intent = last_intent topo }) else acts.Lost topo.term
+read_act topo t = if is_held_in topo t then acts.Read (seen_of topo) else acts.Lost topo.term
 
 abbrev pub reads : World → ℕ → ℕ → World
 reads w c t = on_command w c (with_act (read_act w.topo t))

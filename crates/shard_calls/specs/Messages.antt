@@ -1,15 +1,17 @@
 -- Messages: which of them come to their receivers, when a command may give up a call, and what a source may offer to a replica. Links, lost
 -- and repeated messages are as in Sougoumarane's "Consensus algorithms at scale"; a source sends its binary log to its replicas from the
 -- place on that each has come to (MySQL 8.0 manual, "Replication").
-use Rattle.std.specs.Prelude.{ℕ, ◌+◌, ◌-◌, Bool, true, false, not, ◌&&◌, ◌||◌, ◌==◌, nat_lt, nat_le, List, [], ◌∷◌, ◌++◌, filter, drop, Option, Some, None, is_none, is_some, if◌then◌else◌}
+use Rattle.std.specs.Prelude.{ℕ, ◌+◌, ◌-◌, Bool, true, false, not, ◌&&◌, ◌||◌, ◌==◌, nat_lt, nat_le, List, [], ◌∷◌, ◌++◌, filter, drop, Option, Some, None, is_none, is_some, unwrap_or, if◌then◌else◌}
 use Rattle.std.specs.List.{list_any, list_all}
 use Rattle.shard_base.specs.Options.{◌>>=◌, only_if}
 use Rattle.shard_names.specs.declared.alias.Alias.{Alias}
 use Rattle.shard_names.specs.Tablets.{alias_eq, tablet_of}
 use Rattle.gtid_sets.specs.declared.entry.Entry.{Entry}
+use Rattle.gtid_sets.specs.Position.{covers}
 use Rattle.shard_calls.specs.declared.call.Call.{Call}
 use Rattle.shard_calls.specs.declared.call.Call.TheVariants as calls
 use Rattle.shard_calls.specs.declared.command.Command.{Command}
+use Rattle.shard_calls.specs.declared.command.Command.TheVariants as commands
 use Rattle.shard_calls.specs.declared.event.Link.{Link}
 use Rattle.shard_calls.specs.declared.event.Side.{Side}
 use Rattle.shard_calls.specs.declared.event.Side.TheVariants as sides
@@ -21,8 +23,8 @@ use Rattle.shard_calls.specs.declared.stand.Stand.TheVariants as stands
 use Rattle.shard_calls.specs.declared.state.CommandState.{CommandState}
 use Rattle.shard_calls.specs.declared.why.Why.{Why}
 use Rattle.shard_calls.specs.declared.why.Why.TheVariants as whys
-use Rattle.shard_calls.specs.Stands.{is_down, is_primary_of}
-use Rattle.shard_calls.specs.Logs.{holds, newest_row, place_of_row}
+use Rattle.shard_calls.specs.Stands.{is_down, is_feeder, is_primary_of}
+use Rattle.gtid_sets.specs.Logs.{holds, newest_row, place_of_row, position_of}
 use Rattle.shard_calls.specs.Tablets.{TabletState, is_told, is_row_told}
 use Rattle.shard_calls.specs.World.{World, numbered, open_command}
 
@@ -74,14 +76,16 @@ is_told_at w a index = passes (λ me. is_told w.group me (w.tablets a) index) (t
 abbrev pub is_row_told_at : World → Alias → ℕ → Bool
 is_row_told_at w a term = passes (λ me. is_row_told w.group me (w.tablets a) term) (tablet_of w.group.tablets a)
 
--- Whether a tablet answers a call of this term yet. Who asks whether a row is told waits until it is, or the tablet has left the term,
--- or the moment has come.
+-- Whether a tablet answers a call of this term yet. Who asks whether it holds a position waits until it does, and who asks whether a row is told
+-- until it is, or the tablet has left the term; either until the tablet has seen a later term, or the moment has come.
 abbrev pub is_ready : World → Alias → ℕ → Call → Bool
 is_ready w a u calls.Status = true
 is_ready w a u calls.Stop = true
 is_ready w a u calls.Demote = true
 is_ready w a u (calls.Promote p) = true
 is_ready w a u (calls.SetSource source t p) = true
+is_ready w a u calls.Feed = true
+is_ready w a u (calls.WaitFor p until) = nat_lt u (w.tablets a).seen || covers (position_of (w.tablets a).log) p || nat_le until w.clock
 is_ready w a u (calls.WaitTold until) =
     nat_lt u (w.tablets a).seen || not (is_primary_of (w.tablets a).stand u) || is_row_told_at w a u || nat_le until w.clock
 
@@ -118,9 +122,12 @@ is_unanswered w k = list_all (λ m. is_none m.arrived && not (may_arrive w m)) (
 abbrev pub is_call_lost : World → ℕ → Message → Bool
 is_call_lost w k m = m.lost || (is_some m.arrived && list_all (λ n. n.lost) (answers_to w k))
 
--- the milliseconds that a command waits for an answer
+-- the milliseconds that a command waits for an answer: by its option, or else 15 seconds
 abbrev pub timeout_of : Command → ℕ
-timeout_of command = 15000
+timeout_of (commands.Planned shard new_primary avoid expected timeout allow_cross_cell) = unwrap_or timeout 15000
+timeout_of (commands.External a) = 15000
+timeout_of (commands.Write to) = 15000
+timeout_of (commands.Show a) = 15000
 
 -- a call with a moment of its own has no other limit
 abbrev pub may_time_out : Call → Bool
@@ -129,6 +136,8 @@ may_time_out calls.Stop = true
 may_time_out calls.Demote = true
 may_time_out (calls.Promote p) = true
 may_time_out (calls.SetSource source t p) = true
+may_time_out calls.Feed = true
+may_time_out (calls.WaitFor p until) = false
 may_time_out (calls.WaitTold until) = false
 
 abbrev pub is_overdue : World → Command → Message → Call → Bool
@@ -161,6 +170,7 @@ feeds_term stands.Stopped term = false
 feeds_term (stands.Primary t) term = t == term
 feeds_term (stands.Demoted t by) term = t == term
 feeds_term (stands.Replica source t next) term = false
+feeds_term (stands.Feeder t) term = t == term
 
 abbrev pub waits_at : Alias → ℕ → Content → Bool
 waits_at r n (contents.Asks command term to call) = false
@@ -181,15 +191,19 @@ abbrev pub has_come_to : Option ℕ → ℕ → Bool
 has_come_to None index = false
 has_come_to (Some row) index = nat_le row index
 
--- The first of these entries, whose indexes begin here, that the replica needs: one that it has not, or any from the source's newest row on.
+-- The first of these entries, whose indexes begin here, that the replica needs: one that it has not, or any from this row on.
 abbrev pub needed_from : ℕ → Option ℕ → List Entry → List Entry → Option Indexed
 needed_from index row held [] = None
 needed_from index row held (e ∷ es) =
     if not (holds held e.gtid) || has_come_to row index then Some (record { index = index; entry = e }) else needed_from (index + 1) row held es
 
+-- the index from which on a source sends every entry: that of its newest row, unless it only feeds
+abbrev pub sends_all_from : TabletState → Option ℕ
+sends_all_from source = if is_feeder source.stand then None else place_of_row source.log (newest_row source.log)
+
 -- what a replica that waits for entry n needs of its source
 abbrev pub needed : TabletState → TabletState → ℕ → Option Indexed
-needed source replica n = needed_from n (place_of_row source.log (newest_row source.log)) replica.log (drop (n - 1) source.log)
+needed source replica n = needed_from n (sends_all_from source) replica.log (drop (n - 1) source.log)
 
 -- whether the source may send anything now
 abbrev pub may_feed : World → Alias → Alias → ℕ → ℕ → Bool
@@ -203,6 +217,7 @@ offered_by w r stands.Down = None
 offered_by w r stands.Stopped = None
 offered_by w r (stands.Primary t) = None
 offered_by w r (stands.Demoted t by) = None
+offered_by w r (stands.Feeder t) = None
 offered_by w r (stands.Replica s t n) = only_if (may_feed w s r t n) n >>= (λ m. needed (w.tablets s) (w.tablets r) m >>= (λ x. Some (feed_of s r t n x)))
 
 -- the entry that a replica may be offered, as its source sends it

@@ -8,7 +8,7 @@ use Rattle.gtid_sets.specs.Position.{Position, covers}
 use Rattle.shard_calls.specs.declared.stand.Stand.{Stand}
 use Rattle.shard_calls.specs.declared.stand.Stand.TheVariants as stand
 use Rattle.shard_calls.specs.Stands.{waits_for}
-use Rattle.shard_calls.specs.Logs.{position_of, with_entry, with_own, row_term, row_or_zero, has_row, newest_row}
+use Rattle.gtid_sets.specs.Logs.{position_of, with_entry, with_own, row_term, row_or_zero, has_row, newest_row}
 use Rattle.replication.specs.Acks.{Acked, none_acked}
 use Rattle.shard_calls.specs.Tablets.{TabletState, with_row}
 
@@ -19,6 +19,7 @@ ComesOfPromise log promised stand.Stopped = ⊤
 ComesOfPromise log promised (stand.Primary t) = ⊥
 ComesOfPromise log promised (stand.Demoted t by) = (by ≡ promised) × (t ≡ newest_row log)
 ComesOfPromise log promised (stand.Replica source t next) = (t ≡ promised) × (next ≡ 1)
+ComesOfPromise log promised (stand.Feeder t) = t ≡ promised
 
 pub data TabletMove : TabletState → TabletState → Type 0 where
   Stays : {s : TabletState} → TabletMove s s

@@ -1,18 +1,17 @@
 -- What a history promotes and what it tells, read off the logs. A promotion is a row in the log, as Vitess writes one into its reparent
 -- journal (Vitess manual); that one term promotes once, and that what was told is kept, is what Sougoumarane's "Consensus algorithms at
 -- scale" asks of a change of leaders.
-use Rattle.std.specs.Prelude.{Option, None, ◌≡◌, ◌≤◌, ◌<◌, ℕ, List, ◌∷◌, ◌++◌, Some, take, length, slice_get, Contains}
+use Rattle.std.specs.Prelude.{Option, None, ◌≡◌, ◌≤◌, ◌<◌, ℕ, List, ◌∷◌, ◌++◌, Some, true, take, length, slice_get, Contains}
 use Rattle.shard_names.specs.Tablets.{tablet_of}
 use Rattle.shard_names.specs.declared.alias.Alias.{Alias}
 use Rattle.shard_names.specs.declared.tablet.Tablet.{Tablet}
 use Rattle.gtid_sets.specs.declared.entry.Entry.{Entry}
 use Rattle.gtid_sets.specs.declared.entry.Kind.{Kind}
 use Rattle.gtid_sets.specs.declared.entry.Kind.TheVariants as kinds
-use Rattle.topo_lock.specs.Topology.{intent_of}
 use Rattle.shard_calls.specs.declared.answer.Answer.TheVariants as says
 use Rattle.shard_calls.specs.declared.call.Call.TheVariants as calls
-use Rattle.shard_calls.specs.declared.command.CommandAnswer.{CommandAnswer}
-use Rattle.shard_calls.specs.declared.command.CommandAnswer.TheVariants as answers
+use Rattle.shard_calls.specs.declared.ending.CommandAnswer.{CommandAnswer}
+use Rattle.shard_calls.specs.declared.ending.CommandAnswer.TheVariants as answers
 use Rattle.shard_calls.specs.declared.event.Event.TheVariants as events
 use Rattle.shard_calls.specs.declared.event.Reply.TheVariants as replies
 use Rattle.shard_calls.specs.declared.event.Step.{Step}
@@ -20,9 +19,10 @@ use Rattle.shard_calls.specs.declared.post.Content.TheVariants as contents
 use Rattle.shard_calls.specs.declared.post.Message.{Message}
 use Rattle.shard_calls.specs.declared.state.CommandState.{CommandState}
 use Rattle.shard_calls.specs.declared.state.Wrote.{Wrote}
-use Rattle.shard_calls.specs.Logs.{place_of_row}
+use Rattle.gtid_sets.specs.Logs.{place_of_row}
 use Rattle.shard_calls.specs.Tablets.{answer_to}
 use Rattle.shard_calls.specs.World.{Config, World, opening, numbered}
+use Rattle.shard_calls.specs.Evidence.{intends}
 use Rattle.shard_calls.specs.Table.{after, world_after}
 
 -- the world after the first so many steps
@@ -53,7 +53,7 @@ OnePromotion config steps = (i j term : ℕ) (a b : Alias) (before others : List
 -- what a term promotes is what it intended before
 abbrev pub PromotesIntended : Config → List Step → Type 0
 PromotesIntended config steps = (i term : ℕ) (a : Alias) (before : List Entry)
-    → IsPromotion config steps i term a before → intent_of (world_at config steps i).topo term ≡ Some (record { term = term; alias = a })
+    → IsPromotion config steps i term a before → intends (world_at config steps i).topo term a ≡ true
 
 -- ---- what is told as committed
 
@@ -87,7 +87,9 @@ IsWriteOf term kinds.Local = ⊥
 -- the tablet at which an answer tells an entry as committed
 abbrev pub told_at : CommandAnswer → Option Alias
 told_at (answers.Promoted a term left) = Some a
-told_at (answers.Refused refusal) = None
+told_at (answers.NothingToDo a) = None
+told_at (answers.Recorded term) = None
+told_at (answers.Refused refusal tried) = None
 told_at (answers.Committed g a term) = Some a
 told_at (answers.NotPrimary a at) = None
 told_at answers.NoPrimaryRecorded = None
@@ -97,7 +99,9 @@ told_at (answers.Shown a at p) = None
 -- the entry that an answer tells: of a write its transaction, of a reparent the row of its term
 abbrev pub IsToldBy : CommandAnswer → Entry → Type 0
 IsToldBy (answers.Promoted a term left) e = e.kind ≡ kinds.Row term a
-IsToldBy (answers.Refused refusal) e = ⊥
+IsToldBy (answers.NothingToDo a) e = ⊥
+IsToldBy (answers.Recorded term) e = ⊥
+IsToldBy (answers.Refused refusal tried) e = ⊥
 IsToldBy (answers.Committed g a term) e = (e.gtid ≡ g) × IsWriteOf term e.kind
 IsToldBy (answers.NotPrimary a at) e = ⊥
 IsToldBy answers.NoPrimaryRecorded e = ⊥

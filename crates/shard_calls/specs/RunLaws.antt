@@ -19,7 +19,7 @@ use Rattle.shard_calls.specs.declared.event.Step.{Step}
 use Rattle.shard_calls.specs.declared.post.Content.TheVariants as contents
 use Rattle.shard_calls.specs.declared.post.Message.{Message}
 use Rattle.shard_calls.specs.Stands.{is_primary_of}
-use Rattle.shard_calls.specs.Logs.{holds}
+use Rattle.gtid_sets.specs.Logs.{holds}
 use Rattle.shard_calls.specs.Tablets.{answer_to}
 use Rattle.shard_calls.specs.Moves.{TabletMove}
 use Rattle.shard_calls.specs.Laws.{IsSound}

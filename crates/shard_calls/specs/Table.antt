@@ -17,7 +17,7 @@ use Rattle.shard_calls.specs.World.{Config, World, opening, on_tablet, on_topo, 
 use Rattle.shard_calls.specs.Messages.{with_cut, without_cut, is_deliverable, why_given_up, offer_to}
 use Rattle.shard_calls.specs.Causes.{has_cause}
 use Rattle.shard_calls.specs.Locks.{took_nothing, taken_reply, takes, by_term, read_reply, reads, topo_reply, intends_in, may_record, records_in, releases_in}
-use Rattle.shard_calls.specs.Begins.{names_declared, begins, ends}
+use Rattle.shard_calls.specs.Begins.{is_in_time, names_declared, begins, ends}
 use Rattle.shard_calls.specs.Deliveries.{may_send, asks, by_tablet, after_delivery, delivery_reply, gives_up, why_reply, offers}
 use Rattle.shard_calls.specs.Writes.{may_write, writes_in, written_reply, write_reply, tell_of, tells}
 
@@ -43,7 +43,7 @@ may_tick w ms = nat_le ms 86400000 && nat_lt (w.clock + ms) 253370764800000
 
 -- the condition of the event's row
 abbrev pub meets : Config → World → Event → Bool
-meets config w (events.Begin name command) = is_none (open_of w.actors name) && names_declared config command
+meets config w (events.Begin name command) = is_none (open_of w.actors name) && is_in_time command && names_declared config command
 meets config w (events.Take c) = took_nothing (open_command w c)
 meets config w (events.Read c) = is_some (term_of w c)
 meets config w (events.Intend c a) = is_some (term_of w c) && is_eligible_alias config a

@@ -24,9 +24,9 @@ use Rattle.shard_calls.specs.declared.outcome.Restarted.{Restarted}
 use Rattle.shard_calls.specs.declared.outcome.Restarted.TheVariants as restarted
 use Rattle.shard_calls.specs.declared.stand.Stand.{Stand}
 use Rattle.shard_calls.specs.declared.stand.Stand.TheVariants as stand
-use Rattle.shard_calls.specs.Stands.{is_down, is_primary, is_primary_of, is_replica_in, primary_term, takes_from, waits_for}
+use Rattle.shard_calls.specs.Stands.{is_down, is_stopped, is_primary, is_primary_of, is_replica_in, is_feeder_in, primary_term, takes_from, waits_for}
 use Rattle.shard_calls.specs.Groups.{Group}
-use Rattle.shard_calls.specs.Logs.{position_of, with_entry, with_own, next_gtid, has_row, place_of_row, newest_row, newest_row_names}
+use Rattle.gtid_sets.specs.Logs.{position_of, with_entry, with_own, next_gtid, has_row, place_of_row, newest_row, newest_row_names}
 
 pub record TabletState : Type 0 where
   pub log : List Entry
@@ -100,6 +100,18 @@ joins source t p s =
     then record { state = record s { promised = t; stand = stand.Replica source t 1 }; says = answer.Joined }
     else only_says s (answer.Errant (minus (position_of s.log) p))
 
+-- a tablet that the term has stopped sends its log to replicas of the term
+abbrev pub feeds : ℕ → TabletState → Verdict Answer
+feeds u s =
+    if is_feeder_in s.stand u then only_says s answer.Feeding
+    else if is_stopped s.stand && (s.promised == u) then record { state = record s { stand = stand.Feeder u }; says = answer.Feeding }
+    else only_says s (answer.Kept s.stand)
+
+-- it says whether its log covers the position
+abbrev pub waits_for_position : Position → TabletState → Verdict Answer
+waits_for_position p s =
+    only_says s (if covers (position_of s.log) p then answer.Holds else answer.NotCaughtUp (minus p (position_of s.log)))
+
 -- Whether an index of the tablet's log counts as committed: the tablet is a primary, and the policy accepts those that hold the index as it knows.
 abbrev pub is_told : Group → Tablet → TabletState → ℕ → Bool
 is_told g me s index = is_primary s.stand && is_accepted (rules_of g.policy) g.tablets me (holders s.acked me.alias index)
@@ -120,6 +132,8 @@ verdict g me u call.Stop s = in_term u s (stops u)
 verdict g me u call.Demote s = in_term u s (demotes me u)
 verdict g me u (call.Promote p) s = in_term u s (promotes me u p)
 verdict g me u (call.SetSource source t p) s = in_term u s (joins source t p)
+verdict g me u call.Feed s = in_term u s (feeds u)
+verdict g me u (call.WaitFor p until) s = in_term u s (waits_for_position p)
 verdict g me u (call.WaitTold until) s = in_term u s (waits_told g me u)
 
 abbrev pub after_call : Group → Tablet → ℕ → Call → TabletState → TabletState

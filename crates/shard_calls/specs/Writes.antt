@@ -23,7 +23,8 @@ use Rattle.shard_calls.specs.Deliveries.{by_tablet}
 -- ---- Write, Tell and Local
 
 abbrev pub is_write : Command → Bool
-is_write (commands.Planned shard new_primary) = false
+is_write (commands.Planned shard new_primary avoid expected timeout allow_cross_cell) = false
+is_write (commands.External a) = false
 is_write (commands.Write to) = true
 is_write (commands.Show a) = false
 

@@ -28,6 +28,10 @@ pub enum Answer {
     },
     /// It replicates from the source.
     Joined,
+    /// It sends its log to replicas of the term.
+    Feeding,
+    /// Its log covers the position.
+    Holds,
     /// The row of the term counts as committed.
     Told,
     /// It is the primary of the term, whose row does not count as committed.

@@ -20,6 +20,13 @@ pub enum Call {
         stand: u64,
         position: GtidSet,
     },
+    /// To send its log to replicas, as the tablet that the term has stopped.
+    Feed,
+    /// To say, by this moment in milliseconds since the start of 1970, whether its log covers the position.
+    WaitFor {
+        position: GtidSet,
+        until: u64,
+    },
     /// To say, by this moment in milliseconds since the start of 1970, whether the row of the term counts as committed.
     WaitTold {
         until: u64,

@@ -1,5 +1,6 @@
 use crate::{Call, Command, CommandAnswer, Standing, Why};
 use gtid_sets::Gtid;
+use shard_base::Items;
 use shard_names::{Alias, Name};
 use topo_lock::{Intent, Record};
 
@@ -104,7 +105,7 @@ pub enum Event {
     },
     /// So many milliseconds go by.
     Tick {
-        milliseconds: u64,
+        ms: u64,
     },
     End {
         command: u64,
@@ -112,22 +113,24 @@ pub enum Event {
     },
 }
 
-/// What one who holds the lock reads: the record of the primary, and the last intent.
-#[derive(Clone, Copy, PartialEq, Eq)]
+/// What one who holds the lock reads: the record of the primary, the last intent, and the tablets that are marked as drained, in alias order.
+#[derive(Drop)]
 pub struct Seen {
     pub recorded: Option<Record>,
-    pub last_intent: Option<Intent>,
+    pub intent: Option<Intent>,
+    pub drained: Items<Alias>,
 }
 
 /// The machine's reply to an event.
-#[derive(Clone, Copy, PartialEq, Eq)]
+#[derive(Drop)]
 pub enum Reply {
     Begun { command: u64 },
     /// The lock was taken, in this term.
     Term { term: u64 },
     /// The lock is held in this term, by a command of this actor.
-    Taken { term: u64, by: Name },
-    Seen { seen: Seen },
+    Taken { term: u64, actor: Name },
+    /// The topology was read.
+    Read(Seen),
     /// The lock is not held by the command. The topology is at this term.
     Lost { term: u64 },
     /// The command's term intends another tablet, this one.
@@ -135,7 +138,7 @@ pub enum Reply {
     /// The message of this number was sent.
     Message { message: u64 },
     /// The call was given up for this.
-    GaveUp { why: Why },
+    GaveUp(Why),
     Wrote { gtid: Gtid },
     /// The tablet does not take the write, since it stands so.
     NotPrimary { stand: Standing },
@@ -153,8 +156,16 @@ pub struct Step {
     pub reply: Reply,
 }
 
-/// What happened: the steps, in order.
+/// The line of a script's action that was refused, and how many steps stood before it.
+#[derive(Drop)]
+pub struct Note {
+    pub place: u64,
+    pub line: Items<u8>,
+}
+
+/// What happened: the steps, and the notes of what was refused, each in order.
 #[derive(Drop)]
 pub struct History {
     pub steps: Vec<Step>,
+    pub notes: Vec<Note>,
 }

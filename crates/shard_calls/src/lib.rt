@@ -5,10 +5,13 @@
 mod answer;
 mod call;
 mod command;
+mod ending;
 mod event;
+mod halt;
 mod laws;
 mod outcome;
 mod post;
+mod refusal;
 mod run_laws;
 mod stand;
 mod state;
@@ -16,14 +19,17 @@ mod why;
 
 pub use answer::Answer;
 pub use call::Call;
-pub use command::{Bar, Command, CommandAnswer, Left, NotJoined, Refusal, Unacked};
-pub use event::{Event, History, Link, Reply, Seen, Side, Step};
+pub use command::Command;
+pub use ending::{CommandAnswer, Left, NotJoined};
+pub use event::{Event, History, Link, Note, Reply, Seen, Side, Step};
+pub use halt::Halt;
 pub use laws::{
     log_only_grows, promise_never_falls, refusal_changes_seen_alone, rows_are_promised,
     seen_never_falls, stale_term_is_refused, steps_are_moves,
 };
 pub use outcome::{Accepted, Restarted, Written};
 pub use post::{Content, Message, Settled};
+pub use refusal::{Bar, NotStopped, Reason, Refusal, Rejected, Unacked, Unreached};
 pub use run_laws::{
     acknowledged_is_held, each_answer_has_its_cause, each_step_is_a_move,
     each_transaction_is_one_entry, logs_are_closed, logs_grow_at_their_ends, one_intent_in_a_term,
@@ -31,5 +37,5 @@ pub use run_laws::{
     told_is_kept,
 };
 pub use stand::{Stand, Standing};
-pub use state::{Act, ActorState, CommandState, Shown, Wrote};
+pub use state::{Act, ActorState, CommandState, Opening, Shown, Wrote};
 pub use why::Why;

@@ -1,5 +1,5 @@
 ghost use Rattle.std.specs.Prelude.{◌≡◌};
-ghost use Rattle.shard_calls.specs.Stands.{is_down, is_primary, is_primary_of, is_replica_in, takes_from, standing_of};
+ghost use Rattle.shard_calls.specs.Stands.{is_down, is_primary, is_primary_of, is_replica_in, is_feeder_in, takes_from, standing_of};
 
 use shard_names::Alias;
 
@@ -16,6 +16,8 @@ pub enum Stand {
     Demoted { term: u64, by: u64 },
     /// It replicates from a source of the term. `next` is the index of the entry that it waits for.
     Replica { source: Alias, term: u64, next: u64 },
+    /// It is stopped in the term, and sends its log to replicas of the term.
+    Feeder { term: u64 },
 }
 
 /// A stand without the entry that a replica waits for.
@@ -26,6 +28,7 @@ pub enum Standing {
     Primary { term: u64 },
     Demoted { term: u64, by: u64 },
     Replica { source: Alias, term: u64 },
+    Feeder { term: u64 },
 }
 
 impl Stand {
@@ -69,6 +72,16 @@ impl Stand {
         }
     }
 
+    /// Whether it feeds replicas in the term.
+    pub fn is_feeder_in(&self, term: u64) -> bool
+        ensures { result ≡ is_feeder_in self.now term }
+    {
+        match self {
+            Stand::Feeder { term: of } => *of == term,
+            _ => false,
+        }
+    }
+
     /// Whether it takes the entry behind `after` from this source in this term.
     pub fn takes_from(&self, from: &Alias, term: u64, after: u64) -> bool
         ensures { result ≡ takes_from self.now from.now term after }
@@ -99,6 +112,7 @@ impl Stand {
                 source: *source,
                 term: *term,
             },
+            Stand::Feeder { term } => Standing::Feeder { term: *term },
         }
     }
 }

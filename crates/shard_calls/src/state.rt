@@ -2,7 +2,6 @@ use crate::{Command, Seen, Stand, Standing};
 use gtid_sets::{Gtid, GtidSet};
 use shard_base::Items;
 use shard_names::{Alias, Name};
-use topo_lock::Record;
 
 /// Who gives commands: the pending one by its number, and how many writes it has begun.
 #[derive(Clone, Copy)]
@@ -13,10 +12,10 @@ pub struct ActorState {
 }
 
 /// What the answers of a command may rest on, besides what it wrote and the term that it took.
-#[derive(Clone, Copy)]
+#[derive(Drop)]
 pub enum Act {
     /// Its Take found the lock held in this term, by a command of this actor.
-    Taken { term: u64, by: Name },
+    Taken { term: u64, actor: Name },
     /// It found the lock lost, and the topology at this term.
     Lost { term: u64 },
     /// It read this of the topology.
@@ -49,6 +48,15 @@ pub struct Shown {
     pub position: GtidSet,
 }
 
+/// What stood right after a command began.
+#[derive(Drop)]
+pub struct Opening {
+    /// The record of the primary, the last intent and the drained marks.
+    pub seen: Seen,
+    /// What a `show` was to show.
+    pub shown: Option<Shown>,
+}
+
 /// A command that has begun.
 #[derive(Drop)]
 pub struct CommandState {
@@ -58,10 +66,7 @@ pub struct CommandState {
     pub client: u32,
     /// How many writes its actor had begun with it.
     pub number: u64,
-    /// What was recorded right after it began.
-    pub primary: Option<Record>,
-    /// What a `show` was to show right after it began.
-    pub shown: Option<Shown>,
+    pub opening: Opening,
     /// The term in which it took the lock.
     pub term: Option<u64>,
     /// Whether it has made its Release.

@@ -4,6 +4,7 @@ use Rattle.shard_base.specs.Options.{only_if}
 use Rattle.shard_names.specs.declared.alias.Alias.{Alias}
 use Rattle.shard_names.specs.declared.tablet.Tablet.{Tablet}
 use Rattle.shard_names.specs.Tablets.{alias_eq, tablet_of}
+use Rattle.shard_calls.specs.declared.event.Note.{Note}
 use Rattle.shard_calls.specs.declared.event.Reply.TheVariants as replies
 use Rattle.shard_calls.specs.declared.event.Step.{Step}
 use Rattle.shard_calls.specs.declared.state.Wrote.{Wrote}
@@ -56,19 +57,19 @@ its_state ms a None is = tt
 its_state ms a (Some m) is = sym (state_found ms a m is)
 
 -- as it is seen of a shard
-pub tablet_seen : (d : Data) (ss : List Step) (k : Kept) (a : Alias) (o : Option Managed) → kept_of d ss ≡ k → o ≡ manager_of d.managers a
+pub tablet_seen : (d : Data) (ss : List Step) (ns : List Note) (k : Kept) (a : Alias) (o : Option Managed) → kept_of d ss ns ≡ k → o ≡ manager_of d.managers a
     → option_map (λ x. x.me) o ≡ tablet_of k.config.tablets a
-tablet_seen d ss k a o is found =
+tablet_seen d ss ns k a o is found =
     ap (λ (x : Option Managed). option_map (λ y. y.me) x) found ∙ its_tablet d.managers a ∙ ap (λ (x : Kept). tablet_of x.config.tablets a) is
 
-pub group_seen : (d : Data) (ss : List Step) (k : Kept) (a : Alias) (o : Option Managed) → kept_of d ss ≡ k → o ≡ manager_of d.managers a → Leads d ss
+pub group_seen : (d : Data) (ss : List Step) (ns : List Note) (k : Kept) (a : Alias) (o : Option Managed) → kept_of d ss ns ≡ k → o ≡ manager_of d.managers a → Leads d ss
     → IfSome o (λ m. m.group ≡ group_of k.config)
-group_seen d ss k a o is found h =
+group_seen d ss ns k a o is found h =
     subst (λ (x : Kept). IfSome o (λ m. m.group ≡ group_of x.config)) is
     (its_group (group_in d) d.managers a o (λ m there. group_found (group_in d) d.managers a m h.fits.group there) (sym found))
 
-pub state_seen : (d : Data) (ss : List Step) (k : Kept) (a : Alias) (o : Option Managed) → kept_of d ss ≡ k → o ≡ manager_of d.managers a → Leads d ss
+pub state_seen : (d : Data) (ss : List Step) (ns : List Note) (k : Kept) (a : Alias) (o : Option Managed) → kept_of d ss ns ≡ k → o ≡ manager_of d.managers a → Leads d ss
     → IfSome o (λ m. state_of m ≡ (world_of k).tablets a)
-state_seen d ss k a o is found h =
+state_seen d ss ns k a o is found h =
     subst (λ (x : Kept). IfSome o (λ m. state_of m ≡ (world_of x).tablets a)) is
     (subst (λ (w : World). IfSome o (λ m. state_of m ≡ w.tablets a)) h.world (its_state d.managers a o (sym found)))

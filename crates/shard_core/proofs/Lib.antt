@@ -2,3 +2,5 @@ pub mod RoomLemmas
 pub mod RunLemmas
 pub mod OpeningLemmas
 pub mod FoundLemmas
+pub mod NoteLemmas
+pub mod SpareLemmas

@@ -3,6 +3,7 @@ use Rattle.std.proofs.Common.{◌≡◌, ℕ, ◌+◌, ◌<◌, ◌≤◌, List,
 use Rattle.std.specs.List.{list_all}
 use Rattle.shard_names.proofs.TabletLemmas.{both}
 use Rattle.shard_calls.specs.declared.event.Event.{Event}
+use Rattle.shard_calls.specs.declared.event.Note.{Note}
 use Rattle.shard_calls.specs.declared.event.Reply.{Reply}
 use Rattle.shard_calls.specs.declared.event.Step.{Step}
 use Rattle.shard_calls.specs.declared.post.Content.{Content}
@@ -62,11 +63,12 @@ pub offered_there : (d : Data) (ss : List Step) → Leads d ss
 offered_there d ss h = ap (λ (w : World). next_offered (config_in d) w) (sym h.world)
 
 -- as it is seen
-pub offered_is : (d : Data) (ss : List Step) (k : Kept) → kept_of d ss ≡ k → Leads d ss → next_offered k.config (world_of k) ≡ next_offered (config_in d) (seen d)
-offered_is d ss k is h = ap (λ (x : Kept). next_offered x.config (world_of x)) (sym is) ∙ offered_there d ss h
+pub offered_is : (d : Data) (ss : List Step) (ns : List Note) (k : Kept) → kept_of d ss ns ≡ k → Leads d ss → next_offered k.config (world_of k) ≡ next_offered (config_in d) (seen d)
+offered_is d ss ns k is h = ap (λ (x : Kept). next_offered x.config (world_of x)) (sym is) ∙ offered_there d ss h
 
-pub met_is : (d : Data) (ss : List Step) (k : Kept) (e : Event) → kept_of d ss ≡ k → meets k.config (world_of k) e ≡ meets (config_in d) (world_of (kept_of d ss)) e
-met_is d ss k e is = ap (λ (x : Kept). meets x.config (world_of x) e) (sym is)
+pub met_is : (d : Data) (ss : List Step) (ns : List Note) (k : Kept) (e : Event) → kept_of d ss ns ≡ k
+    → meets k.config (world_of k) e ≡ meets (config_in d) (world_of (kept_of d ss [])) e
+met_is d ss ns k e is = ap (λ (x : Kept). meets x.config (world_of x) e) (sym is)
 
 -- ---- numbers are as few among more, and messages are between declared tablets
 

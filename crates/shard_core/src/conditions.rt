@@ -8,8 +8,8 @@ use causes::has_cause;
 use changes::Found;
 use shard_calls::Event;
 use shard_state::{
-    Fields, is_declared, is_down, is_eligible_alias, is_link, may_record, may_send, may_tick,
-    may_write, names_declared, open_of, term_of, took_nothing,
+    Fields, is_declared, is_down, is_eligible_alias, is_in_time, is_link, may_record, may_send,
+    may_tick, may_write, names_declared, open_of, term_of, took_nothing,
 };
 
 /// Whether the condition of the event's row holds, where this was found of it.
@@ -20,7 +20,9 @@ pub(crate) fn meets(fields: &Fields, event: &Event, found: &Found) -> bool
 {
     match event {
         Event::Begin { actor, command } => {
-            open_of(&fields.actors, actor).is_none() && names_declared(fields, command)
+            open_of(&fields.actors, actor).is_none()
+                && is_in_time(command)
+                && names_declared(fields, command)
         }
         Event::Take { command } => took_nothing(&fields.commands, *command),
         Event::Read { command } => term_of(&fields.commands, *command).is_some(),
@@ -55,7 +57,7 @@ pub(crate) fn meets(fields: &Fields, event: &Event, found: &Found) -> bool
         Event::Cut { x, y } => is_link(fields, x, y),
         Event::Mend { x, y } => is_link(fields, x, y),
         Event::Lose { message } => fields.post.message(*message).is_some(),
-        Event::Tick { milliseconds } => may_tick(fields, *milliseconds),
+        Event::Tick { ms } => may_tick(fields, *ms),
         Event::End { command, answer } => has_cause(fields, *command, answer),
     }
 }

@@ -6,5 +6,7 @@ mod finding;
 mod opening;
 mod room;
 mod shard;
+mod spares;
 
-pub use shard::{MOST_STEPS, Refused, Shard};
+pub use shard::{MOST_NOTES, MOST_STEPS, Refused, Shard};
+pub use shard_calls::Halt;

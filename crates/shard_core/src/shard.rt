@@ -1,4 +1,4 @@
-ghost use Rattle.std.specs.Prelude.{◌≡◌, ◌<◌, ◌≤◌, ◌↔◌, ◌++◌, ◌∷◌, ◌+◌, ◌-◌, ◌^◌, [], ℕ, true, false, length, nat_lt, IsTrue, IfOk, IsOk, OnOk, OnErr, IsErrOf, IfSome, MatchOption, Some, None, vec_len, vec_capacity};
+ghost use Rattle.std.specs.Prelude.{◌≡◌, ◌<◌, ◌≤◌, ◌↔◌, ◌++◌, ◌∷◌, ◌+◌, ◌-◌, ◌^◌, [], ℕ, List, true, false, length, nat_lt, IsTrue, IfOk, IsOk, OnOk, OnErr, IsErrOf, IfSome, MatchOption, Some, None, vec_len, vec_capacity};
 ghost use Rattle.std.specs.Option.{option_copied, option_map};
 ghost use Rattle.shard_names.specs.Tablets.{AreTablets, tablet_of};
 ghost use Rattle.tablet_manager.specs.Managed.{state_of};
@@ -12,16 +12,20 @@ ghost use Rattle.changes.specs.Makes as rows;
 ghost use Rattle.shard_core.specs.Room.{has_room_kept};
 ghost use Rattle.shard_core.specs.Kept.{Makes, kept_of, world_of};
 ghost use Rattle.shard_core.specs.Leads.{Leads};
+ghost use Rattle.shard_core.specs.Notes.{AreInPlace};
+ghost use Rattle.shard_core.specs.Spares.{IsSpare};
+ghost use Rattle.shard_calls.specs.declared.event.Note.{Note as Noted};
 
 use crate::conditions::{meets, row_number};
 use crate::finding::find;
 use crate::opening::{opened_actors, opened_managers};
 use crate::room::owed_after;
+use crate::spares::{again, spare_of};
 use changes::{Found, change};
 use durability::Durability;
 use post::Post;
-use shard_base::OutOfMemory;
-use shard_calls::{CommandState, Event, History, Reply, Seen, Standing, Step, Why};
+use shard_base::{Items, OutOfMemory};
+use shard_calls::{CommandState, Event, Halt, History, Note, Reply, Seen, Standing, Step, Why};
 use shard_names::{Alias, Name, Tablet};
 use shard_state::{Fields, manager_of, open_command, open_of, tablet_of};
 use std::alloc::Global;
@@ -43,7 +47,10 @@ pub enum Refused {
 /// The most steps that a history has.
 pub const MOST_STEPS: usize = 1000000;
 
-/// One shard: its tablets, and the history of its steps.
+/// The most notes that a history has.
+pub const MOST_NOTES: usize = 1000000;
+
+/// One shard: its tablets, and the history of its steps and notes.
 #[derive(Drop)]
 pub struct Shard {
     fields: Fields,
@@ -52,7 +59,7 @@ pub struct Shard {
     owed: u64,
 }
 
-// Clauses see the tablets and the steps: all that stands follows from them.
+// Clauses see the tablets, the steps and the notes: all that stands follows from the tablets and the steps.
 impl Model for Shard {
     ghost use Rattle.shard_core.specs.Kept.{Kept};
     ghost use Rattle.shard_state.specs.State.{data_of, config_in};
@@ -61,20 +68,23 @@ impl Model for Shard {
 
     ghost use Rattle.shard_core.specs.Stands.{Stands};
 
-    ghost view = { λ s. record { config = config_in (data_of s.fields); steps = s.history.steps.items } };
+    ghost view = { λ s. record { config = config_in (data_of s.fields); steps = s.history.steps.items; notes = s.history.notes.items } };
 
     ghost invariant = { Stands };
 }
 
-/// Appends a step, for which there is room.
-fn push_step(steps: &mut Vec<Step>, event: Event, reply: &Reply)
+/// Appends a step, for which there is room, and gives its reply once more.
+fn push_step(steps: &mut Vec<Step>, event: Event, reply: Reply, spare: Option<Seen>) -> Reply
     requires room { vec_len steps.old < vec_capacity steps.old }
-    ensures items { steps.new.items ≡ steps.old.items ++ (record { event = event; reply = reply.now }) ∷ [] }
+    requires spare { IsSpare reply spare }
+    ensures same { result ≡ reply }
+    ensures items { steps.new.items ≡ steps.old.items ++ (record { event = event; reply = reply }) ∷ [] }
     ensures len { vec_len steps.new ≡ vec_len steps.old + 1 }
     ensures capacity { vec_capacity steps.new ≡ vec_capacity steps.old }
 {
-    let reply = *reply;
+    let said = again(&reply, spare);
     steps.push_reserved(Step { event, reply });
+    said
 }
 
 /// The step of an event whose row's condition holds, after which there is room for so many more. Want of memory changes nothing.
@@ -87,12 +97,12 @@ fn make(
 ) -> Result<Reply, OutOfMemory>
     requires leads { Leads (data_of fields.old) steps.old.items }
     requires few { length steps.old.items < 1000000 }
-    requires met { Met (config_in (data_of fields.old)) (world_of (kept_of (data_of fields.old) steps.old.items)) event }
+    requires met { Met (config_in (data_of fields.old)) (world_of (kept_of (data_of fields.old) steps.old.items [])) event }
     requires found { IsFound (seen (data_of fields.old)) event found }
     requires owed { owed < 2 ^ 32 }
     ensures leads { OnOk result (Leads (data_of fields.new) steps.new.items) }
-    ensures step { OnOk result (Makes (kept_of (data_of fields.old) steps.old.items) (kept_of (data_of fields.new) steps.new.items) event) }
-    ensures reply { IfOk result (λ reply. reply ≡ answer (config_in (data_of fields.old)) (world_of (kept_of (data_of fields.old) steps.old.items)) event) }
+    ensures step { (notes : List Noted) → OnOk result (Makes (kept_of (data_of fields.old) steps.old.items notes) (kept_of (data_of fields.new) steps.new.items notes) event) }
+    ensures reply { IfOk result (λ reply. reply ≡ answer (config_in (data_of fields.old)) (world_of (kept_of (data_of fields.old) steps.old.items [])) event) }
     ensures made { IfOk result (λ reply. rows.Makes (data_of fields.old) (data_of fields.new) event reply) }
     ensures room { OnOk result (vec_len steps.new + owed ≤ vec_capacity steps.new) }
     ensures same_steps { OnErr result (steps.new.items ≡ steps.old.items) }
@@ -108,17 +118,17 @@ fn make(
     let _why: Option<&Why> = None;
     let _standing: Option<&Standing> = None;
     steps.reserve(owed as usize + 1)?;
+    let spare = spare_of(fields, &event)?;
     let mut found = found;
     let reply = change(fields, &event, &mut found)?;
-    push_step(steps, event, &reply);
-    Ok(reply)
+    Ok(push_step(steps, event, reply, spare))
 }
 
 /// Whether the condition of the event's row holds in the world to which the history has led.
 fn is_met(fields: &Fields, history: &History, event: &Event, found: &Found) -> bool
     requires leads { Leads (data_of fields.now) history.now.steps.items }
     requires found { IsFound (seen (data_of fields.now)) event.now found.now }
-    ensures { result ≡ meets (config_in (data_of fields.now)) (world_of (kept_of (data_of fields.now) history.now.steps.items)) event.now }
+    ensures { result ≡ meets (config_in (data_of fields.now)) (world_of (kept_of (data_of fields.now) history.now.steps.items [])) event.now }
 {
     let _past = history;
     meets(fields, event, found)
@@ -127,7 +137,7 @@ fn is_met(fields: &Fields, history: &History, event: &Event, found: &Found) -> b
 /// What the row of the event goes by, if its condition holds.
 fn look(fields: &Fields, history: &History, event: &Event) -> Option<Found>
     requires leads { Leads (data_of fields.now) history.now.steps.items }
-    ensures { MatchOption result (meets (config_in (data_of fields.now)) (world_of (kept_of (data_of fields.now) history.now.steps.items)) event.now ≡ false) (λ found. (meets (config_in (data_of fields.now)) (world_of (kept_of (data_of fields.now) history.now.steps.items)) event.now ≡ true) × IsFound (seen (data_of fields.now)) event.now found) }
+    ensures { MatchOption result (meets (config_in (data_of fields.now)) (world_of (kept_of (data_of fields.now) history.now.steps.items [])) event.now ≡ false) (λ found. (meets (config_in (data_of fields.now)) (world_of (kept_of (data_of fields.now) history.now.steps.items [])) event.now ≡ true) × IsFound (seen (data_of fields.now)) event.now found) }
 {
     let found = find(fields, event);
     if is_met(fields, history, event, &found) {
@@ -162,6 +172,21 @@ fn full(event: Event) -> Refused
     Refused::Full
 }
 
+fn full_of_notes(line: Items<u8>) -> Halt
+    ensures { result ≡ Halt.Full }
+{
+    let _not_kept = line;
+    Halt::Full
+}
+
+fn push_note(notes: &mut Vec<Note>, note: Note) -> Result<(), OutOfMemory>
+    ensures ok { OnOk result (notes.new.items ≡ notes.old.items ++ note ∷ []) }
+    ensures err { OnErr result (notes.new.items ≡ notes.old.items) }
+{
+    notes.push(note)?;
+    Ok(())
+}
+
 impl Shard {
     /// A shard of these tablets, in alias order, to which nothing has happened. The policy says how many of them must acknowledge a primary's
     /// writes, and which. The clock begins at this moment, in milliseconds since the start of 1970, before the year 9999.
@@ -174,7 +199,7 @@ impl Shard {
         requires tablets { AreTablets tablets.now }
         requires few { length tablets.now ≤ 32 }
         requires begins { IsTrue (nat_lt moment 253370764800000) }
-        ensures { IfOk result (λ shard. shard ≡ record { config = record { tablets = tablets.now; policy = policy; moment = moment }; steps = [] }) }
+        ensures { IfOk result (λ shard. shard ≡ record { config = record { tablets = tablets.now; policy = policy; moment = moment }; steps = []; notes = [] }) }
     {
         let managers = opened_managers(alloc, tablets, policy)?;
         let actors = opened_actors(alloc)?;
@@ -195,6 +220,7 @@ impl Shard {
             },
             history: History {
                 steps: Vec::new(alloc),
+                notes: Vec::new(alloc),
             },
             owed: 0,
         })
@@ -203,13 +229,17 @@ impl Shard {
     /// What has happened. It takes no memory.
     pub fn history(&self) -> &History
         ensures steps { result.now.steps.items ≡ self.now.steps }
+        ensures notes { result.now.notes.items ≡ self.now.notes }
     {
         &self.history
     }
 
-    /// The history, without the shard: a run of the machine, with all that holds of every run. It takes no memory.
+    /// The history, without the shard: a run of the machine, with all that holds of every run, and its notes in order of their places. It
+    /// takes no memory.
     pub fn into_history(self) -> History
         ensures steps { result.steps.items ≡ self.steps }
+        ensures notes { result.notes.items ≡ self.notes }
+        ensures in_place { AreInPlace result.steps.items result.notes.items }
         ensures safe { IsSafe self.config result.steps.items }
     {
         let Shard { history, .. } = self;
@@ -299,6 +329,23 @@ impl Shard {
         ensures { result ≡ next_offered self.now.config (world_of self.now) }
     {
         arrivals::offerable(&self.fields)
+    }
+
+    /// One more note behind the steps: the line of a script's action that was refused. A refusal changes nothing.
+    pub fn note(&mut self, line: Items<u8>) -> Result<(), Halt>
+        ensures noted { OnOk result (self.new ≡ record self.old { notes = self.old.notes ++ record { place = length self.old.steps; line = line } ∷ [] }) }
+        ensures full { IsErrOf result Halt.Full ↔ (length self.old.notes ≡ MOST_NOTES) }
+        ensures few { OnOk result (length self.old.notes < MOST_NOTES) }
+        ensures err { OnErr result (self.new ≡ self.old) }
+    {
+        if self.history.notes.len() >= MOST_NOTES {
+            return Err(full_of_notes(line));
+        }
+        let place = self.history.steps.len() as u64;
+        match push_note(&mut self.history.notes, Note { place, line }) {
+            Ok(()) => Ok(()),
+            Err(OutOfMemory) => Err(Halt::OutOfMemory),
+        }
     }
 
     /// One step of the machine. A refusal changes nothing. A command's first Release and its End take no memory.

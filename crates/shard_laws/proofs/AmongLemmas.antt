@@ -1,12 +1,12 @@
 -- Members of lists.
-use Rattle.std.proofs.Common.{◌≡◌, ◌⊎◌, inl, inr, ℕ, zero, suc, ◌+◌, ◌≤◌, ◌<◌, max, Bool, true, false, not, ◌&&◌, ◌||◌, ◌==◌, nat_lt, refl, ap, sym, subst, ◌∙◌, arith, List, [], ◌∷◌, ◌++◌, map, cond, Option, Some, None, length}
+use Rattle.std.proofs.Common.{◌≡◌, ◌⊎◌, inl, inr, ℕ, zero, suc, ◌≤◌, ◌<◌, Bool, true, false, ◌||◌, ◌==◌, refl, ap, sym, subst, ◌∙◌, arith, List, [], ◌∷◌, map, cond, Option, Some, None}
 use Rattle.std.proofs.lemmas.Bool.{false≢true}
 use Rattle.std.proofs.lemmas.Bool.Decides.{nat_tests}
 use Rattle.std.specs.List.{cons_option, slice_get, find, filter, filter_map, list_any, list_all, AllByRecursion, Contains}
 use Rattle.gtid_sets.specs.Position.{greatest}
 use Rattle.topo_lock.specs.declared.intent.Intent.{Intent}
 use Rattle.topo_lock.specs.Topology.{last_of}
-use Rattle.topo_lock.specs.Laws.{TermsRise, TermsWithin}
+use Rattle.topo_lock.specs.Laws.{TermsRise}
 use Rattle.topo_lock.proofs.IntentLemmas.{within_last}
 use Rattle.shard_names.proofs.TabletLemmas.{both_left, both_right}
 use Rattle.shard_calls.specs.World.{numbered}

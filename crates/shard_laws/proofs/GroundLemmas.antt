@@ -1,53 +1,47 @@
 -- The story of a trace, and its facts on rows and grounds: why a promoted tablet has all that can be told in an earlier term.
-use Rattle.std.proofs.Common.{get_or, ◌≡◌, ◌⊎◌, inl, inr, ℕ, zero, suc, ◌+◌, ◌≤◌, ◌<◌, Bool, true, false, not, ◌&&◌, ◌||◌, ◌==◌, nat_lt, refl, ap, sym, subst, ◌∙◌, arith, List, [], ◌∷◌, ◌++◌, cond, take, Option, Some, None, is_none, is_some, length, length-append, IsTrue}
+use Rattle.std.proofs.Common.{get_or, ◌≡◌, inl, inr, ℕ, zero, suc, ◌≤◌, ◌<◌, Bool, true, false, not, ◌||◌, ◌==◌, nat_lt, refl, ap, sym, subst, ◌∙◌, arith, List, [], ◌∷◌, ◌++◌, take, Option, Some, None, is_some, length, length-append}
 use Rattle.std.proofs.lemmas.Bool.{false≢true}
 use Rattle.std.proofs.lemmas.Bool.Decides.{nat_tests}
-use Rattle.std.specs.List.{slice_get, find, filter, list_any, list_all, Contains}
+use Rattle.std.specs.List.{slice_get, filter, list_any, Contains}
 use Rattle.shard_base.specs.Lists.{IsFront}
 use Rattle.shard_names.specs.declared.alias.Alias.{Alias}
 use Rattle.shard_names.specs.declared.tablet.Tablet.{Tablet}
-use Rattle.shard_names.specs.Tablets.{tablet_of}
 use Rattle.durability.specs.Rules.{Rules, is_eligible}
-use Rattle.durability.specs.Sets.{TabletSet, Accepted, Revokes}
+use Rattle.durability.specs.Sets.{TabletSet, Revokes}
 use Rattle.durability.specs.Counting.{is_revoked}
 use Rattle.durability.proofs.CountingLemmas.{counting_revokes}
 use Rattle.std.proofs.lemmas.List.Elements.{Contains-get_or}
-use Rattle.replication.specs.Told.{holders}
-use Rattle.gtid_sets.specs.declared.gtid.Gtid.{Gtid}
 use Rattle.gtid_sets.specs.declared.entry.Entry.{Entry}
 use Rattle.gtid_sets.specs.declared.entry.Kind.{Kind}
 use Rattle.gtid_sets.specs.declared.entry.Kind.TheVariants as kinds
 use Rattle.gtid_sets.specs.Position.{Position, covers, has}
 use Rattle.gtid_sets.proofs.PositionLemmas.{covers-has}
-use Rattle.topo_lock.specs.Topology.{Topology, intent_of, last_of}
+use Rattle.topo_lock.specs.Topology.{Topology}
 use Rattle.topo_lock.specs.declared.intent.Intent.{Intent}
-use Rattle.topo_lock.specs.Laws.{TermsRise, TermsWithin}
+use Rattle.topo_lock.specs.Laws.{TermsRise}
 use Rattle.topo_lock.proofs.MoveLemmas.{intents_are_in_order, intent_of_term_stays_over_steps, past_terms_are_settled_over_steps}
 use Rattle.shard_calls.specs.declared.call.Call.{Call}
 use Rattle.shard_calls.specs.declared.call.Call.TheVariants as calls
 use Rattle.shard_calls.specs.declared.post.Content.{Content}
 use Rattle.shard_calls.specs.declared.post.Content.TheVariants as contents
-use Rattle.shard_calls.specs.declared.post.Message.{Message}
-use Rattle.shard_calls.specs.Stands.{is_primary_of}
-use Rattle.shard_calls.specs.Logs.{position_of, holds, has_row, is_row_of, row_term, row_or_zero, newest_row, next_gtid}
+use Rattle.gtid_sets.specs.Logs.{position_of, holds, has_row, is_row_of, row_term, newest_row}
 use Rattle.shard_calls.specs.Tablets.{TabletState}
 use Rattle.shard_calls.specs.RunLaws.{IsIn}
 use Rattle.shard_calls.specs.World.{Config, World, numbered}
-use Rattle.shard_calls.specs.Evidence.{is_first, intends}
-use Rattle.shard_calls.specs.Grounds.{may_lead, last_before, has_stopped, stopped_at, stopped_among, revokes_all}
+use Rattle.shard_calls.specs.Evidence.{is_first}
+use Rattle.shard_calls.specs.Grounds.{last_before, has_stopped, stopped_at, stopped_among, revokes_all}
 use Rattle.shard_calls.specs.Outcomes.{sendings}
 use Rattle.shard_calls.specs.declared.state.Act.{Act}
-use Rattle.shard_calls.specs.Winner.{Held, newest_of, leading, covers_all, winner}
+use Rattle.gtid_sets.specs.Winner.{Held, newest_of, leading, covers_all, winner}
 use Rattle.shard_laws.specs.Traces.{IsToldIn}
-use Rattle.shard_laws.specs.TightMoves.{IsPosted, TightMove, Stays, Sees, Stops, Demotes, Joins, Enters, Takes, Skips, Writes, WritesLocal, Hears, Promises, GoesDown, ComesUp, TabletStep, Plainly, Returning, CallFits, Sends, Asks, Answers, Acks, Feeds}
+use Rattle.shard_laws.specs.TightMoves.{TightMove, Stays, Sees, Stops, Demotes, Joins, Serves, Enters, Takes, Skips, Writes, WritesLocal, Hears, Promises, GoesDown, ComesUp, TabletStep, Plainly, Returning, CallFits, Sends, Asks, Answers, Acks, Feeds}
 use Rattle.shard_calls.proofs.LogLemmas.{has-position}
 use Rattle.shard_calls.proofs.LogChangeLemmas.{last_is}
 use Rattle.shard_calls.proofs.WorldLemmas.{IsIntended, IsSoundWorld, Fits, get_front, intended_by}
 use Rattle.shard_calls.proofs.EntryLemmas.{IsUniqueWorld, one_entry, held_gtid, holds_found}
-use Rattle.shard_calls.proofs.ClosureLemmas.{in_front, take_get, below_length}
-use Rattle.shard_calls.proofs.StepLemmas.{alias_found}
+use Rattle.shard_calls.proofs.ClosureLemmas.{in_front, below_length}
 use Rattle.shard_laws.proofs.AmongLemmas.{Among, contains_among, among_filter, filter_among, among_map, map_among, find_among, all_among, any_among, greatest_among, last_among, recursion_among, last_greatest, find_rising}
-use Rattle.shard_laws.proofs.TraceLemmas.{Trace, SaysAll, WasAdded, WasSent, was_added, was_sent, logs_later, topo_later, post_later, votes_answered}
+use Rattle.shard_laws.proofs.TraceLemmas.{Trace, was_added, was_sent, logs_later, topo_later, votes_answered}
 use Rattle.shard_laws.proofs.HeardLemmas.{IsHeard, IsGrounded, ByFirst, ByGivenUp, ByStopped, HasGround, has_ground, stopped_heard}
 use Rattle.shard_laws.proofs.LeaderCore.{Story, Has, HasRow, Carries, IsBehind, Ground, First, Planned, Emergency, IsPromoted, newest_found, row_below}
 
@@ -193,6 +187,7 @@ entered_by rules config at j u c row _ trace (Sees v le) added is = absurd (no_m
 entered_by rules config at j u c row _ trace (Stops k d v posted le) added is = absurd (no_more _ row added)
 entered_by rules config at j u c row _ trace (Demotes k d v me posted found le own) added is = absurd (no_more _ row added)
 entered_by rules config at j u c row _ trace (Joins k d v t source p posted le new inside) added is = absurd (no_more _ row added)
+entered_by rules config at j u c row _ trace (Serves k d v posted le promised stand) added is = absurd (no_more _ row added)
 entered_by rules config at j u c row _ trace (Enters k d v p me posted found le none caught) added is =
     let same = the_last ((at j).tablets c).log _ row added in
     let kinds_meet : kinds.Row v me.alias ≡ kinds.Row u c = sym (ap (λ (e : Entry). e.kind) same) ∙ is in

@@ -1,18 +1,16 @@
 -- What the evidence of a Promote says of the worlds before it: which answers stood in the post, and what their tablets had.
-use Rattle.std.proofs.Common.{◌≡◌, ◌⊎◌, inl, inr, ℕ, zero, suc, ◌+◌, ◌≤◌, ◌<◌, Bool, true, false, not, ◌&&◌, ◌||◌, ◌==◌, nat_lt, refl, ap, sym, subst, ◌∙◌, arith, List, [], ◌∷◌, ◌++◌, cond, Option, Some, None, is_none}
+use Rattle.std.proofs.Common.{◌≡◌, ◌⊎◌, inl, inr, ℕ, suc, ◌<◌, Bool, true, false, ◌&&◌, ◌||◌, ◌==◌, refl, ap, sym, subst, ◌∙◌, arith, List, Option, Some, None}
 use Rattle.std.proofs.lemmas.Bool.{false≢true}
 use Rattle.std.proofs.lemmas.Bool.Decides.{nat_tests}
 use Rattle.std.specs.List.{find}
 use Rattle.shard_base.specs.Options.{◌>>=◌}
 use Rattle.shard_names.specs.declared.alias.Alias.{Alias}
-use Rattle.shard_names.specs.declared.tablet.Tablet.{Tablet}
 use Rattle.shard_names.specs.Tablets.{alias_eq, tablet_of}
 use Rattle.shard_names.proofs.TabletLemmas.{both_left, both_right, alias_eq_is}
-use Rattle.durability.specs.Rules.{Rules, is_eligible}
+use Rattle.durability.specs.Rules.{Rules}
 use Rattle.gtid_sets.specs.Position.{Position, count}
 use Rattle.gtid_sets.specs.StoredPosition.{position_eq}
 use Rattle.gtid_sets.proofs.PositionLemmas.{position_eq-Decides}
-use Rattle.topo_lock.specs.Topology.{Topology}
 use Rattle.topo_lock.specs.declared.intent.Intent.{Intent}
 use Rattle.shard_calls.specs.declared.answer.Answer.{Answer}
 use Rattle.shard_calls.specs.declared.answer.Answer.TheVariants as answers
@@ -26,12 +24,12 @@ use Rattle.shard_calls.specs.World.{Config, World, numbered}
 use Rattle.shard_calls.specs.declared.state.Act.{Act}
 use Rattle.shard_calls.specs.declared.state.Act.TheVariants as acts
 use Rattle.shard_calls.specs.Outcomes.{Outcome, Answered, GivenUp, answer_in, outcome_by, outcome_of, Sending, sending_by, sending_of, sendings}
-use Rattle.shard_calls.specs.Winner.{Held, winner}
+use Rattle.gtid_sets.specs.Winner.{Held, winner}
 use Rattle.shard_calls.specs.Evidence.{is_first, intends}
 use Rattle.shard_calls.specs.Grounds.{asks_stop, asks_demote, is_asked, first_outcome, if_stopped, if_demoted, if_answered, stopped_at, demoted_at, last_before, is_of_term, passes_held, gave_up, stopped_among, has_stopped, revokes_all, stopped_all, may_lead, has_any_ground, grounded}
 use Rattle.shard_laws.specs.TightMoves.{IsPosted}
 use Rattle.shard_calls.proofs.SettleLemmas.{settled_in}
-use Rattle.shard_calls.proofs.ToldLemmas.{IsTellingWorld, Answering, AnswerFits}
+use Rattle.shard_calls.proofs.ToldLemmas.{IsTellingWorld}
 use Rattle.shard_laws.proofs.AmongLemmas.{find_among, map_among}
 use Rattle.shard_laws.proofs.TraceLemmas.{Trace, SaysAll, SaysFor, is_answered}
 
@@ -50,10 +48,10 @@ same_asked c d u v a b x y h = cc
 same_message : (x y : Message) → Some x ≡ Some y → x ≡ y
 same_message x y h = cc
 
-record AnswersTo (w : World) (k : ℕ) (a : Alias) (says : Answer) : Type 0 where
-  number : ℕ
-  command : ℕ
-  posted : IsPosted w.post number (contents.Answers command k a says)
+pub record AnswersTo (w : World) (k : ℕ) (a : Alias) (says : Answer) : Type 0 where
+  pub number : ℕ
+  pub command : ℕ
+  pub posted : IsPosted w.post number (contents.Answers command k a says)
 
 answered_by : (w : World) (k c u n : ℕ) (a : Alias) (call : Call) (m : Message) (says : Answer) → IsTellingWorld w → numbered w.post k ≡ Some m
     → m.content ≡ contents.Asks c u a call → m.settled ≡ Some (settleds.Answered n) → outcome_by w.post (settleds.Answered n) ≡ Some (Answered says)
@@ -77,7 +75,7 @@ answered_by w k c u n a call m says telling here carries settled h =
       };
     }
 
-settled_by : (w : World) (k c u : ℕ) (a : Alias) (call : Call) (m : Message) (says : Answer) (o : Option Settled) → IsTellingWorld w → numbered w.post k ≡ Some m
+pub settled_by : (w : World) (k c u : ℕ) (a : Alias) (call : Call) (m : Message) (says : Answer) (o : Option Settled) → IsTellingWorld w → numbered w.post k ≡ Some m
     → m.content ≡ contents.Asks c u a call → m.settled ≡ o → (o >>= outcome_by w.post) ≡ Some (Answered says) → AnswersTo w k a says
 settled_by w k c u a call m says None telling here carries settled h = absurd (let none : None ≡ Some (Answered says) = h in cc)
 settled_by w k c u a call m says (Some (settleds.Answered n)) telling here carries settled h = answered_by w k c u n a call m says telling here carries settled h
@@ -85,13 +83,13 @@ settled_by w k c u a call m says (Some (settleds.GaveUp why)) telling here carri
     absurd (let wrong : Some (GivenUp why) ≡ Some (Answered says) = h in cc)
 
 -- a call among those that a command sent
-record IsAsked (w : World) (x : Sending) : Type 0 where
-  number : ℕ
-  message : Message
-  command : ℕ
-  at : numbered w.post number ≡ Some message
-  carries : message.content ≡ contents.Asks command x.term x.to x.call
-  outcome : x.outcome ≡ outcome_of w.post message
+pub record IsAsked (w : World) (x : Sending) : Type 0 where
+  pub number : ℕ
+  pub message : Message
+  pub command : ℕ
+  pub at : numbered w.post number ≡ Some message
+  pub carries : message.content ≡ contents.Asks command x.term x.to x.call
+  pub outcome : x.outcome ≡ outcome_of w.post message
 
 some_sending : (x y : Sending) → Some x ≡ Some y → x ≡ y
 some_sending x y h = cc
@@ -105,7 +103,7 @@ asked_by w k m (contents.Answers command asked from says) x here carries h = abs
 asked_by w k m (contents.Feeds from to term after index e) x here carries h = absurd (let none : None ≡ Some x = h in cc)
 asked_by w k m (contents.Acks from to term index) x here carries h = absurd (let none : None ≡ Some x = h in cc)
 
-asked_in : (w : World) (act : Act) (x : Sending) → sending_of w.post act ≡ Some x → IsAsked w x
+pub asked_in : (w : World) (act : Act) (x : Sending) → sending_of w.post act ≡ Some x → IsAsked w x
 asked_in w (acts.Taken term by) x h = absurd (let none : None ≡ Some x = h in cc)
 asked_in w (acts.Lost term) x h = absurd (let none : None ≡ Some x = h in cc)
 asked_in w (acts.Read seen) x h = absurd (let none : None ≡ Some x = h in cc)
@@ -159,6 +157,8 @@ stopping a (answers.Status seen promised at newest position) h is = absurd (let 
 stopping a (answers.Demoted newest position) h is = absurd (let none : None ≡ Some h = is in cc)
 stopping a (answers.Promoted position) h is = absurd (let none : None ≡ Some h = is in cc)
 stopping a answers.Joined h is = absurd (let none : None ≡ Some h = is in cc)
+stopping a answers.Feeding h is = absurd (let none : None ≡ Some h = is in cc)
+stopping a answers.Holds h is = absurd (let none : None ≡ Some h = is in cc)
 stopping a answers.Told h is = absurd (let none : None ≡ Some h = is in cc)
 stopping a answers.NotTold h is = absurd (let none : None ≡ Some h = is in cc)
 stopping a (answers.Kept at) h is = absurd (let none : None ≡ Some h = is in cc)
@@ -176,6 +176,8 @@ demoting a (answers.Status seen promised at newest position) h is = absurd (let 
 demoting a (answers.Stopped newest position) h is = absurd (let none : None ≡ Some h = is in cc)
 demoting a (answers.Promoted position) h is = absurd (let none : None ≡ Some h = is in cc)
 demoting a answers.Joined h is = absurd (let none : None ≡ Some h = is in cc)
+demoting a answers.Feeding h is = absurd (let none : None ≡ Some h = is in cc)
+demoting a answers.Holds h is = absurd (let none : None ≡ Some h = is in cc)
 demoting a answers.Told h is = absurd (let none : None ≡ Some h = is in cc)
 demoting a answers.NotTold h is = absurd (let none : None ≡ Some h = is in cc)
 demoting a (answers.Kept at) h is = absurd (let none : None ≡ Some h = is in cc)

@@ -1,7 +1,6 @@
 -- The induction on terms: a promoted tablet holds all that is told in an earlier term. What it rests on is gathered as facts of a story, which
 -- names the logs at the end of a history, and what it intends, votes, promotes and tells.
-use Rattle.std.proofs.Common.{◌≡◌, ◌⊎◌, inl, inr, ℕ, zero, suc, ◌+◌, ◌≤◌, ◌<◌, max, Bool, true, false, ◌&&◌, ◌==◌, nat_lt, IsTrue, refl, ap, sym, subst, ◌∙◌, arith, List, [], ◌∷◌, ◌++◌, map, take, Option, Some, None, unwrap_or}
-use Rattle.std.proofs.lemmas.Bool.{false≢true}
+use Rattle.std.proofs.Common.{◌≡◌, ◌⊎◌, inl, inr, ℕ, zero, suc, ◌≤◌, ◌<◌, max, Bool, true, false, ◌&&◌, nat_lt, IsTrue, refl, ap, subst, ◌∙◌, arith, List, [], ◌∷◌, take, Some, unwrap_or}
 use Rattle.std.proofs.lemmas.Bool.Decides.{nat_tests}
 use Rattle.std.proofs.lemmas.List.Elements.{All-contains}
 use Rattle.std.specs.List.{slice_get, Contains}
@@ -10,11 +9,11 @@ use Rattle.shard_names.specs.declared.alias.Alias.{Alias}
 use Rattle.shard_names.specs.declared.tablet.Tablet.{Tablet}
 use Rattle.shard_names.proofs.TabletLemmas.{both_left, both_right}
 use Rattle.durability.specs.Rules.{Rules, is_eligible}
-use Rattle.durability.specs.Sets.{TabletSet, Accepted, Meets, RevokesPrimary, Revokes}
+use Rattle.durability.specs.Sets.{TabletSet, Accepted, RevokesPrimary, Revokes}
 use Rattle.gtid_sets.specs.declared.entry.Entry.{Entry}
 use Rattle.gtid_sets.specs.declared.entry.Kind.{Kind}
 use Rattle.gtid_sets.specs.declared.entry.Kind.TheVariants as kinds
-use Rattle.shard_calls.specs.Logs.{row_term, row_or_zero, newest_row}
+use Rattle.gtid_sets.specs.Logs.{row_term, row_or_zero, newest_row}
 use Rattle.shard_calls.specs.RunLaws.{IsIn}
 use Rattle.shard_calls.proofs.ListLemmas.{one_passes}
 use Rattle.shard_calls.proofs.WorldLemmas.{get_front}

@@ -1,11 +1,8 @@
 -- Leader completeness: of every trace, and so of every run.
-use Rattle.std.proofs.Common.{◌≡◌, ◌⊎◌, inl, inr, ℕ, zero, suc, ◌+◌, ◌≤◌, ◌<◌, Bool, true, false, ◌||◌, ◌==◌, nat_lt, refl, ap, sym, subst, ◌∙◌, arith, List, [], ◌∷◌, ◌++◌, cond, take, Option, Some, None, length, option_map, unwrap_or}
-use Rattle.std.proofs.lemmas.Bool.{false≢true}
-use Rattle.std.proofs.lemmas.Bool.Decides.{nat_tests}
+use Rattle.std.proofs.Common.{◌≡◌, inl, inr, ℕ, zero, suc, ◌+◌, ◌≤◌, Bool, true, refl, ap, sym, subst, ◌∙◌, arith, List, [], ◌∷◌, ◌++◌, take, Option, Some, None, length, option_map}
 use Rattle.std.proofs.lemmas.List.Quantifiers.{position-Some}
 use Rattle.std.proofs.lemmas.Option.{get_or_from_slice_get}
 use Rattle.std.specs.List.{slice_get, position, Contains, slice_index_or}
-use Rattle.shard_base.specs.Lists.{IsFront}
 use Rattle.shard_names.specs.declared.alias.Alias.{Alias}
 use Rattle.shard_names.specs.declared.tablet.Tablet.{Tablet}
 use Rattle.shard_names.specs.Tablets.{tablet_of}
@@ -19,31 +16,28 @@ use Rattle.gtid_sets.specs.declared.entry.Entry.{Entry}
 use Rattle.gtid_sets.specs.declared.entry.Kind.{Kind}
 use Rattle.gtid_sets.specs.declared.entry.Kind.TheVariants as kinds
 use Rattle.topo_lock.specs.Moves.{Stays as TopoStays}
-use Rattle.shard_calls.specs.declared.answer.Answer.TheVariants as says
-use Rattle.shard_calls.specs.declared.call.Call.TheVariants as calls
 use Rattle.shard_calls.specs.declared.event.Step.{Step}
 use Rattle.shard_calls.specs.declared.post.Content.{Content}
 use Rattle.shard_calls.specs.declared.post.Message.{Message}
 use Rattle.shard_calls.specs.declared.state.CommandState.{CommandState}
-use Rattle.shard_calls.specs.declared.state.Wrote.{Wrote}
 use Rattle.shard_calls.specs.Groups.{Group}
 use Rattle.shard_calls.specs.Stands.{is_primary, is_primary_of}
-use Rattle.shard_calls.specs.Logs.{is_row_of, place_of_row}
-use Rattle.shard_calls.specs.Tablets.{TabletState, is_told, answer_to}
+use Rattle.gtid_sets.specs.Logs.{is_row_of, place_of_row}
+use Rattle.shard_calls.specs.Tablets.{TabletState, is_told}
 use Rattle.shard_calls.specs.World.{Config, IsConfig, World, opening, group_of, numbered}
 use Rattle.shard_calls.specs.Messages.{is_told_at}
-use Rattle.shard_calls.specs.Table.{after, IsStep, IsRunFrom, IsRun, world_after}
+use Rattle.shard_calls.specs.Table.{after, IsStep, IsRun, world_after}
 use Rattle.shard_calls.specs.Promotions.{world_at, IsNewIn, IsPromotion, TellsAt, ToWrite, ToWait, IsTold, IsWriteOf, HoldsTold}
-use Rattle.shard_calls.specs.RunLaws.{OfEveryShard, IsIn}
-use Rattle.shard_laws.specs.TightMoves.{IsPosted, WorldMove, TightMove, Stays, Plainly}
+use Rattle.shard_calls.specs.RunLaws.{OfEveryShard}
+use Rattle.shard_laws.specs.TightMoves.{IsPosted, WorldMove, Stays, Plainly}
 use Rattle.shard_calls.proofs.LogChangeLemmas.{stays, last_is}
 use Rattle.shard_calls.proofs.ClosureLemmas.{below_length}
 use Rattle.shard_calls.proofs.StepLemmas.{alias_found}
 use Rattle.shard_calls.proofs.GroupLemmas.{group_at}
-use Rattle.shard_calls.proofs.WroteLemmas.{wrote_in, WroteFits, AllWroteFits}
-use Rattle.shard_calls.proofs.RunLemmas.{step_along, whole_at, truthful_at, next_world, row_kind, told_by_tell, told_by_wait}
+use Rattle.shard_calls.proofs.WroteLemmas.{wrote_in, AllWroteFits}
+use Rattle.shard_calls.proofs.RunLemmas.{step_along, truthful_at, next_world, row_kind, told_by_tell, told_by_wait}
 use Rattle.shard_calls.proofs.AcceptLemmas.{passed, row_told}
-use Rattle.shard_laws.proofs.TightLemmas.{step_moves, primary_stand}
+use Rattle.shard_laws.proofs.TightLemmas.{step_moves}
 use Rattle.shard_laws.proofs.TraceLemmas.{Trace, LogStep, log_stepped, SaysAll, SaysFor, is_answered, votes_answered, logs_later, promise_later}
 use Rattle.shard_laws.specs.Traces.{IsTrace, OfEveryTrace, RowsAreClosed, AcksSayTruth, Leaves, ByStop, ByDemote, VotesAreAnswered, EmergencyIsRevoked, IsOfTerm, IsToldIn, ToldIsVoted, Promotes, LeaderIsComplete}
 use Rattle.shard_calls.specs.declared.answer.Answer.{Answer}
@@ -59,7 +53,7 @@ use Rattle.shard_laws.proofs.MovedLemmas.{IsKnownWorld, known_moved}
 use Rattle.shard_calls.specs.Outcomes.{sendings}
 use Rattle.shard_calls.specs.Grounds.{has_stopped, stopped_at, revokes_all}
 use Rattle.shard_laws.proofs.HeardLemmas.{stopped_heard}
-use Rattle.shard_laws.proofs.GroundLemmas.{all_revoked, held_some, Promoted, ToldBy, story_of, one_intent, row_promoted, promotion_ground}
+use Rattle.shard_laws.proofs.GroundLemmas.{all_revoked, held_some, story_of, one_intent, row_promoted, promotion_ground}
 use Rattle.shard_laws.proofs.VoteLemmas.{told_votes, told_eligible, told_is_voted}
 use Rattle.shard_laws.proofs.LeaderCore.{Facts, leader_holds}
 
@@ -212,7 +206,7 @@ rests rules config w = record {
   post = record { sent = λ n content h. inl h; stays = λ n content h. h; settled = λ k n is. inl is };
 }
 
-past_end : (config : Config) (w : World) (ss : List Step) (i : ℕ) → slice_get ss i ≡ None → world_after config w (take (suc i) ss) ≡ world_after config w (take i ss)
+pub past_end : (config : Config) (w : World) (ss : List Step) (i : ℕ) → slice_get ss i ≡ None → world_after config w (take (suc i) ss) ≡ world_after config w (take i ss)
 past_end config w [] zero h = refl
 past_end config w [] (suc i) h = refl
 past_end config w (s ∷ ss) zero h = absurd (let some : Some s ≡ None = h in cc)
@@ -275,7 +269,7 @@ promoted_by config ss i u a before run p =
           is_row = ap (λ (e : Entry). e.kind) (sym row) ∙ p.is_row;
         }
 
-place_passes : (test : Entry → Bool) (log : List Entry) (index : ℕ) (e : Entry) → option_map (λ (k : ℕ). k + 1) (position test log) ≡ Some index → numbered log index ≡ Some e
+pub place_passes : (test : Entry → Bool) (log : List Entry) (index : ℕ) (e : Entry) → option_map (λ (k : ℕ). k + 1) (position test log) ≡ Some index → numbered log index ≡ Some e
     → test e ≡ true
 place_passes test log zero e place at = absurd (let none : None ≡ Some e = at in cc)
 place_passes test log (suc n) e place at = passes log n at (of_place (position test log) place)

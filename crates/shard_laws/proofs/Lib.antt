@@ -9,3 +9,13 @@ pub mod MovedLemmas
 pub mod LeaderLemmas
 pub mod SiteLemmas
 pub mod SafeLemmas
+pub mod GroundExamples
+pub mod TabletLaws
+pub mod NetworkLemmas
+pub mod GiveUpLemmas
+pub mod LinkLemmas
+pub mod CommandLemmas
+pub mod NumberLemmas
+pub mod EndLemmas
+pub mod RowLemmas
+pub mod ShownLemmas

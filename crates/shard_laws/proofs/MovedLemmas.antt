@@ -1,19 +1,13 @@
 -- Moves keep all that is known of a world: that it is sound, that each transaction is one entry, closure, and that answers say the truth.
-use Rattle.std.proofs.Common.{◌≡◌, ◌⊎◌, inl, inr, ℕ, zero, suc, ◌+◌, ◌≤◌, ◌<◌, max, Bool, true, false, not, ◌&&◌, ◌||◌, ◌==◌, nat_lt, refl, ap, sym, subst, ◌∙◌, arith, List, [], ◌∷◌, ◌++◌, cond, Option, Some, None}
+use Rattle.std.proofs.Common.{◌≡◌, ◌⊎◌, inl, inr, ℕ, ◌+◌, ◌≤◌, Bool, true, ◌&&◌, ◌==◌, refl, ap, sym, subst, ◌∙◌, arith, List, [], ◌∷◌, ◌++◌, cond, Some, None}
 use Rattle.std.proofs.lemmas.Bool.{false≢true}
 use Rattle.std.proofs.lemmas.Bool.Decides.{nat_tests}
-use Rattle.std.specs.List.{slice_get}
-use Rattle.shard_base.specs.Lists.{IsFront}
 use Rattle.shard_names.specs.declared.alias.Alias.{Alias}
-use Rattle.shard_names.specs.declared.tablet.Tablet.{Tablet}
 use Rattle.shard_names.specs.Tablets.{alias_eq, tablet_of}
 use Rattle.shard_names.proofs.TabletLemmas.{both_left, both_right, alias_eq_itself}
 use Rattle.durability.specs.Rules.{Rules}
-use Rattle.replication.specs.Acks.{none_acked}
 use Rattle.gtid_sets.specs.declared.entry.Entry.{Entry}
-use Rattle.gtid_sets.specs.declared.entry.Kind.{Kind}
 use Rattle.gtid_sets.specs.declared.entry.Kind.TheVariants as kinds
-use Rattle.topo_lock.specs.Topology.{Topology}
 use Rattle.topo_lock.specs.Moves.{Goes}
 use Rattle.shard_calls.specs.declared.answer.Answer.{Answer}
 use Rattle.shard_calls.specs.declared.call.Call.{Call}
@@ -23,28 +17,27 @@ use Rattle.shard_calls.specs.declared.event.Event.TheVariants as events
 use Rattle.shard_calls.specs.declared.post.Content.{Content}
 use Rattle.shard_calls.specs.declared.post.Content.TheVariants as contents
 use Rattle.shard_calls.specs.declared.post.Message.{Message}
-use Rattle.shard_calls.specs.declared.post.Settled.{Settled}
 use Rattle.shard_calls.specs.declared.post.Settled.TheVariants as settleds
 use Rattle.shard_calls.specs.declared.stand.Stand.{Stand}
 use Rattle.shard_calls.specs.declared.stand.Stand.TheVariants as stands
 use Rattle.shard_calls.specs.Stands.{takes_from, waits_for}
-use Rattle.shard_calls.specs.Logs.{holds, row_or_zero, with_entry, has_row}
+use Rattle.gtid_sets.specs.Logs.{with_entry}
 use Rattle.shard_calls.specs.Laws.{IsSound, WaitsForEntry}
 use Rattle.shard_calls.specs.Moves as loose
-use Rattle.shard_calls.specs.Tablets.{TabletState, after_call, answer_to, accepts}
+use Rattle.shard_calls.specs.Tablets.{TabletState, answer_to, accepts}
 use Rattle.shard_calls.specs.World.{Config, IsConfig, World, numbered}
-use Rattle.shard_calls.specs.Messages.{Indexed, needed, feeds_term, feed_of}
+use Rattle.shard_calls.specs.Messages.{feed_of}
 use Rattle.shard_calls.specs.Outcomes.{sendings}
 use Rattle.shard_calls.specs.Evidence.{intends}
-use Rattle.shard_calls.specs.Grounds.{may_lead, has_any_ground, grounded}
-use Rattle.shard_laws.specs.TightMoves.{IsPosted, TightMove, Stays, Sees, Stops, Demotes, Joins, Enters, Takes, Skips, Writes, WritesLocal, Hears, Promises, GoesDown, ComesUp, TabletStep, Plainly, Returning, CallFits, Sends, Asks, Answers, Acks, Feeds, PostMove, WorldMove}
+use Rattle.shard_calls.specs.Grounds.{may_lead, has_any_ground}
+use Rattle.shard_laws.specs.TightMoves.{IsPosted, TightMove, Stays, Sees, Stops, Demotes, Joins, Serves, Enters, Takes, Skips, Writes, WritesLocal, Hears, Promises, GoesDown, ComesUp, TabletStep, Plainly, Returning, CallFits, Sends, Asks, Answers, Acks, Feeds, WorldMove}
 use Rattle.shard_calls.proofs.LawLemmas.{chosen}
 use Rattle.shard_calls.proofs.MoveLemmas.{whole, one_more, keeps_sound_over_steps, log_only_grows_over_steps}
 use Rattle.shard_calls.proofs.LogChangeLemmas.{LogChange, SameLog, RowEnters, EntryComes, OwnEntry}
 use Rattle.shard_calls.proofs.WorldLemmas.{IsIntended, Held, AskFits, Fits, RowFits, IsSoundWorld, IsLater, fits_stays, row_stays, intended_stays, intended_by}
 use Rattle.shard_calls.proofs.StepLemmas.{needed_held, row_numbered, feeds_within, RowIn, row_in}
 use Rattle.shard_calls.proofs.EntryLemmas.{IsUniqueWorld, apart_change, home_in}
-use Rattle.shard_calls.proofs.ClosureLemmas.{Says, StandSays, Follows, Bridges, Holds, IsClosedWorld, Known, says_stays, follows_stays, stand_stays, noted_stays, none_noted}
+use Rattle.shard_calls.proofs.ClosureLemmas.{Says, StandSays, Follows, Holds, IsClosedWorld, Known, says_stays, follows_stays, stand_stays, noted_stays, none_noted}
 use Rattle.shard_calls.proofs.ClosedLemmas.{taken_follows, taken_stand, kept, same_kept, quiet, joined, heard_one, needed_bridges, change_closed}
 use Rattle.shard_calls.proofs.SettleLemmas.{settled_in, Stay}
 use Rattle.shard_calls.proofs.ToldLemmas.{IsTellingWorld, Answering, AnswerFits, RowIfPromoted, answer_stays, answering_stays, call_truth}
@@ -83,6 +76,9 @@ loosened config w a _ sound (Demotes k c u me posted found le own) =
     let low = (sound.tablets a).seen in one (loose.Promises u u (stands.Demoted _ u) le (omega (arith, low, le)) (omega arith) (refl, refl))
 loosened config w a _ sound (Joins k c u t source p posted le new inside) =
     one (loose.Promises u t (stands.Replica source t 1) le new (carried_fits w k (contents.Asks c u a (calls.SetSource source t p)) sound posted) (refl, refl))
+loosened config w a _ sound (Serves k c u posted le promised stand) =
+    subst (λ (n : ℕ). LooseTo w a (record (w.tablets a) { seen = u; promised = n; stand = stands.Feeder u })) (sym promised)
+    (one (loose.Promises u u (stands.Feeder u) le (omega (arith, promised)) (omega arith) refl))
 loosened config w a _ sound (Enters k c u p me posted found le none caught) =
     let low = (sound.tablets a).seen in one (loose.Enters me u p le (omega (arith, low, le)) none caught)
 loosened config w a _ sound (Takes k term before index source e posted stand fresh) =
@@ -118,6 +114,7 @@ changed_by config w a _ (Sees u le) = (events.Lapse, SameLog)
 changed_by config w a _ (Stops k c u posted le) = (events.Lapse, SameLog)
 changed_by config w a _ (Demotes k c u me posted found le own) = (events.Lapse, SameLog)
 changed_by config w a _ (Joins k c u t source p posted le new inside) = (events.Lapse, SameLog)
+changed_by config w a _ (Serves k c u posted le promised stand) = (events.Lapse, SameLog)
 changed_by config w a _ (Enters k c u p me posted found le none caught) =
     (events.Deliver k, RowEnters k c u p me posted.message posted.at posted.carries found none caught)
 changed_by config w a _ (Takes k term before index source e posted stand fresh) =
@@ -151,6 +148,8 @@ call_fits rules config w u a (calls.Promote p) fits =
     let ground = has_any_ground rules config.tablets w.topo (sendings w.post fits.0) u p in
     intended_by w.topo u a (both_right eligible (intends w.topo u a) (both_left (eligible && intends w.topo u a) ground fits.1))
 call_fits rules config w u a (calls.SetSource source t p) fits = fits
+call_fits rules config w u a calls.Feed fits = tt
+call_fits rules config w u a (calls.WaitFor p until) fits = tt
 call_fits rules config w u a (calls.WaitTold until) fits = tt
 
 waits_one : (s : TabletState) (source : Alias) (t n : ℕ) → s.stand ≡ stands.Replica source t n → IsSound s → 1 ≤ n
@@ -228,6 +227,7 @@ moved_holds config w v a _ known (Sees u le) = same_kept config w v a _ known re
 moved_holds config w v a _ known (Stops k c u posted le) = quiet config w v a _ known tt refl
 moved_holds config w v a _ known (Demotes k c u me posted found le own) = quiet config w v a _ known tt refl
 moved_holds config w v a _ known (Joins k c u t source p posted le new inside) = quiet config w v a _ known (λ n is. joined v (w.tablets a).log source n is) refl
+moved_holds config w v a _ known (Serves k c u posted le promised stand) = quiet config w v a _ known tt refl
 moved_holds config w v a _ known (Enters k c u p me posted found le none caught) = record { stand = tt; noted = λ r. none_noted v a r }
 moved_holds config w v a _ known (Takes k term before index source e posted stand fresh) = record {
   stand = next_says v ((w.tablets a).log ++ e ∷ []) source term index

@@ -1,16 +1,15 @@
 -- A tablet whose writes may break off moves as one that only goes down later: its crash is silence, and its return is what stood of the write, and a crash.
-use Rattle.std.proofs.Common.{◌≡◌, ◌⊎◌, inl, inr, ℕ, ◌+◌, ◌≤◌, Bool, true, false, refl, ap, sym, subst, ◌∙◌, arith, List, [], ◌∷◌, ◌++◌, Option, Some, None}
+use Rattle.std.proofs.Common.{◌≡◌, ◌⊎◌, inl, inr, ℕ, ◌≤◌, false, refl, ap, sym, subst, ◌∙◌, arith, List, Option, Some, None}
 use Rattle.std.proofs.lemmas.Bool.{false≢true}
 use Rattle.shard_names.specs.declared.alias.Alias.{Alias}
 use Rattle.shard_names.specs.declared.tablet.Tablet.{Tablet}
 use Rattle.replication.specs.Acks.{none_acked}
 use Rattle.shard_calls.specs.declared.post.Content.{Content}
 use Rattle.shard_calls.specs.declared.post.Message.{Message}
-use Rattle.shard_calls.specs.declared.stand.Stand.{Stand}
 use Rattle.shard_calls.specs.declared.stand.Stand.TheVariants as stands
 use Rattle.shard_calls.specs.Stands.{is_down}
 use Rattle.shard_calls.specs.Tablets.{TabletState}
-use Rattle.shard_laws.specs.TightMoves.{IsPosted, TightMove, Stays, Sees, Stops, Demotes, Joins, Enters, Takes, Skips, Writes, WritesLocal, Hears, Promises, GoesDown, ComesUp, TabletStep, Plainly, Returning, Site, Recovers, Nothing, Seen, Promised, Whole, SiteMove, Moves, Breaks, Waits, ComesBack, ShownBy, Shown, SitesAreShown}
+use Rattle.shard_laws.specs.TightMoves.{IsPosted, TightMove, Stays, Sees, Stops, Demotes, Joins, Serves, Enters, Takes, Skips, Writes, WritesLocal, Hears, Promises, GoesDown, ComesUp, TabletStep, Plainly, Returning, Recovers, Nothing, Seen, Promised, Whole, Moves, Breaks, Waits, ComesBack, ShownBy, Shown, SitesAreShown}
 
 abbrev Grows : List Message → List Message → Type 0
 Grows post later = (n : ℕ) (content : Content) → IsPosted post n content → IsPosted later n content
@@ -22,6 +21,7 @@ tight_later ts post later a s _ grows (Sees u le) = Sees u le
 tight_later ts post later a s _ grows (Stops k c u posted le) = Stops k c u (grows k _ posted) le
 tight_later ts post later a s _ grows (Demotes k c u me posted found le own) = Demotes k c u me (grows k _ posted) found le own
 tight_later ts post later a s _ grows (Joins k c u t source p posted le new inside) = Joins k c u t source p (grows k _ posted) le new inside
+tight_later ts post later a s _ grows (Serves k c u posted le promised stand) = Serves k c u (grows k _ posted) le promised stand
 tight_later ts post later a s _ grows (Enters k c u p me posted found le none caught) = Enters k c u p me (grows k _ posted) found le none caught
 tight_later ts post later a s _ grows (Takes k term before index source e posted stand fresh) = Takes k term before index source e (grows k _ posted) stand fresh
 tight_later ts post later a s _ grows (Skips k term before index source e posted stand held) = Skips k term before index source e (grows k _ posted) stand held
@@ -38,6 +38,7 @@ seen_step ts post a s _ (Sees u le) = le
 seen_step ts post a s _ (Stops k c u posted le) = le
 seen_step ts post a s _ (Demotes k c u me posted found le own) = le
 seen_step ts post a s _ (Joins k c u t source p posted le new inside) = le
+seen_step ts post a s _ (Serves k c u posted le promised stand) = le
 seen_step ts post a s _ (Enters k c u p me posted found le none caught) = le
 seen_step ts post a s _ (Takes k term before index source e posted stand fresh) = omega arith
 seen_step ts post a s _ (Skips k term before index source e posted stand held) = omega arith
@@ -59,6 +60,7 @@ down_moved ts post a g _ (Sees u le) = (record g { seen = u }, Plainly (Sees u l
 down_moved ts post a g _ (Stops k c u posted le) = (_, Plainly (Stops k c u posted le), inl refl)
 down_moved ts post a g _ (Demotes k c u me posted found le own) = (_, Plainly (Demotes k c u me posted found le own), inl refl)
 down_moved ts post a g _ (Joins k c u t source p posted le new inside) = (_, Plainly (Joins k c u t source p posted le new inside), inl refl)
+down_moved ts post a g _ (Serves k c u posted le promised stand) = absurd (let wrong : stands.Down ≡ stands.Stopped = stand in cc)
 down_moved ts post a g _ (Enters k c u p me posted found le none caught) = (_, Plainly (Enters k c u p me posted found le none caught), inl refl)
 down_moved ts post a g _ (Takes k term before index source e posted stand fresh) = absurd (let wrong : stands.Down ≡ stands.Replica source term before = stand in cc)
 down_moved ts post a g _ (Skips k term before index source e posted stand held) = absurd (let wrong : stands.Down ≡ stands.Replica source term before = stand in cc)

@@ -1,11 +1,11 @@
 -- Each row of the step table changes each tablet, the post and the topology by one move.
-use Rattle.std.proofs.Common.{◌≡◌, ◌⊎◌, inl, inr, ℕ, zero, suc, ◌+◌, ◌≤◌, Bool, true, false, not, ◌&&◌, ◌||◌, ◌==◌, nat_lt, refl, ap, sym, subst, ◌∙◌, arith, List, [], ◌∷◌, ◌++◌, cond, Option, Some, None, unwrap_or}
+use Rattle.std.proofs.Common.{◌≡◌, ◌⊎◌, inl, inr, ℕ, ◌+◌, ◌≤◌, Bool, true, false, not, ◌&&◌, ◌||◌, ◌==◌, nat_lt, refl, ap, sym, subst, ◌∙◌, arith, List, [], ◌∷◌, ◌++◌, cond, Option, Some, None, unwrap_or}
 use Rattle.std.proofs.lemmas.Bool.{false≢true}
 use Rattle.std.proofs.lemmas.Bool.Decides.{nat_tests}
 use Rattle.shard_names.specs.declared.alias.Alias.{Alias}
 use Rattle.shard_names.specs.declared.tablet.Tablet.{Tablet}
-use Rattle.shard_names.specs.Tablets.{tablet_of, is_declared, alias_eq}
-use Rattle.shard_names.proofs.TabletLemmas.{both_left, both_right, alias_eq_itself}
+use Rattle.shard_names.specs.Tablets.{tablet_of, is_declared}
+use Rattle.shard_names.proofs.TabletLemmas.{both_left, both_right}
 use Rattle.durability.specs.Policies.{rules_of}
 use Rattle.gtid_sets.specs.declared.entry.Entry.{Entry}
 use Rattle.gtid_sets.specs.declared.entry.Kind.TheVariants as kinds
@@ -15,9 +15,6 @@ use Rattle.shard_calls.specs.declared.answer.Answer.{Answer}
 use Rattle.shard_calls.specs.declared.call.Call.{Call}
 use Rattle.shard_calls.specs.declared.call.Call.TheVariants as calls
 use Rattle.shard_calls.specs.declared.event.Event.{Event}
-use Rattle.shard_calls.specs.declared.event.Event.TheVariants as events
-use Rattle.shard_calls.specs.declared.outcome.Accepted.{Accepted}
-use Rattle.shard_calls.specs.declared.outcome.Accepted.TheVariants as accepteds
 use Rattle.shard_calls.specs.declared.outcome.Written.{Written}
 use Rattle.shard_calls.specs.declared.outcome.Written.TheVariants as written
 use Rattle.shard_calls.specs.declared.post.Content.{Content}
@@ -26,9 +23,9 @@ use Rattle.shard_calls.specs.declared.post.Message.{Message}
 use Rattle.shard_calls.specs.declared.stand.Stand.{Stand}
 use Rattle.shard_calls.specs.declared.stand.Stand.TheVariants as stands
 use Rattle.shard_calls.specs.declared.state.CommandState.{CommandState}
-use Rattle.shard_calls.specs.Stands.{is_down, is_primary_of, is_replica_in, primary_term, takes_from, waits_for}
-use Rattle.shard_calls.specs.Logs.{position_of, holds, has_row, newest_row_names}
-use Rattle.shard_calls.specs.Tablets.{TabletState, Verdict, only_says, in_term, stops, demotes, promotes, joins, waits_told, after_call, answer_to, accepts, writes_own}
+use Rattle.shard_calls.specs.Stands.{is_down, is_stopped, is_primary_of, is_replica_in, is_feeder_in, primary_term, takes_from, waits_for}
+use Rattle.gtid_sets.specs.Logs.{position_of, holds, has_row, newest_row_names}
+use Rattle.shard_calls.specs.Tablets.{TabletState, Verdict, only_says, in_term, stops, demotes, promotes, joins, feeds, waits_for_position, waits_told, after_call, accepts, writes_own}
 use Rattle.shard_calls.specs.World.{Config, World, numbered, term_in, open_command}
 use Rattle.shard_calls.specs.Messages.{Indexed, needed, feeds_term, may_feed, is_cut, is_under_way, link_between, feed_of, offered_by}
 use Rattle.shard_calls.specs.Locks.{by_term}
@@ -36,16 +33,16 @@ use Rattle.shard_calls.specs.World.{is_eligible_alias, may_be_promoted}
 use Rattle.shard_calls.specs.Outcomes.{sendings}
 use Rattle.shard_calls.specs.Evidence.{intends, is_first_ground, has_evidence}
 use Rattle.shard_calls.specs.Grounds.{may_lead, last_before, gave_up, stopped_all, has_any_ground, grounded}
-use Rattle.shard_calls.specs.Deliveries.{may_send, may_ask_in, asks_status, call_of}
+use Rattle.shard_calls.specs.Deliveries.{may_send, may_ask_in, asks_status}
 use Rattle.shard_calls.specs.Table.{Met, after}
-use Rattle.shard_laws.specs.TightMoves.{IsPosted, TightMove, Stays, Sees, Stops, Demotes, Joins, Enters, Takes, Skips, Writes, WritesLocal, Hears, GoesDown, ComesUp, Plainly, CallFits, Sends, Asks, Answers, Acks, Feeds, PostMove, WorldMove}
+use Rattle.shard_laws.specs.TightMoves.{IsPosted, TightMove, Stays, Sees, Stops, Demotes, Joins, Serves, Enters, Takes, Skips, Writes, WritesLocal, Hears, GoesDown, ComesUp, Plainly, CallFits, Sends, Asks, Answers, Acks, Feeds, WorldMove}
 use Rattle.shard_calls.proofs.LawLemmas.{chosen}
 use Rattle.shard_calls.proofs.TouchLemmas.{Touched, Untouched, Called, Fed, Heard, WrittenBy, WrittenLocal, Crashed, Restarted, touched, topo_moves}
 use Rattle.shard_calls.proofs.PostLemmas.{Sent, Asked, Replied, Acked, Offered, PostCases, post_cases}
 use Rattle.shard_calls.specs.declared.post.Settled.{Settled}
 use Rattle.shard_calls.specs.declared.post.Settled.TheVariants as settleds
 use Rattle.shard_calls.specs.Outcomes.{settled_in}
-use Rattle.shard_calls.proofs.SettleLemmas.{Stay, post_stays, Settling, ByAnswer, ByGivingUp, SettledCases, settled_cases}
+use Rattle.shard_calls.proofs.SettleLemmas.{post_stays, Settling, ByAnswer, ByGivingUp, SettledCases, settled_cases}
 use Rattle.shard_calls.proofs.ToldLemmas.{asked_state}
 use Rattle.shard_calls.proofs.ClosedLemmas.{taken_stand, took, fed_state}
 
@@ -57,6 +54,7 @@ primary_stand stands.Stopped t is = absurd (false≢true is)
 primary_stand (stands.Primary u) t is = let same : u ≡ t = grind (arith, nat_tests) in ap (λ (v : ℕ). stands.Primary v) same
 primary_stand (stands.Demoted u by) t is = absurd (false≢true is)
 primary_stand (stands.Replica source u next) t is = absurd (false≢true is)
+primary_stand (stands.Feeder u) t is = absurd (false≢true is)
 
 term_stand : (at : Stand) (t : ℕ) → primary_term at ≡ Some t → at ≡ stands.Primary t
 term_stand stands.Down t is = absurd (let none : None ≡ Some t = is in cc)
@@ -64,13 +62,23 @@ term_stand stands.Stopped t is = absurd (let none : None ≡ Some t = is in cc)
 term_stand (stands.Primary u) t is = let same : u ≡ t = (let some : Some u ≡ Some t = is in cc) in ap (λ (v : ℕ). stands.Primary v) same
 term_stand (stands.Demoted u by) t is = absurd (let none : None ≡ Some t = is in cc)
 term_stand (stands.Replica source u next) t is = absurd (let none : None ≡ Some t = is in cc)
+term_stand (stands.Feeder u) t is = absurd (let none : None ≡ Some t = is in cc)
 
-down_stand : (at : Stand) → is_down at ≡ true → at ≡ stands.Down
+pub down_stand : (at : Stand) → is_down at ≡ true → at ≡ stands.Down
 down_stand stands.Down is = refl
 down_stand stands.Stopped is = absurd (false≢true is)
 down_stand (stands.Primary u) is = absurd (false≢true is)
 down_stand (stands.Demoted u by) is = absurd (false≢true is)
 down_stand (stands.Replica source u next) is = absurd (false≢true is)
+down_stand (stands.Feeder u) is = absurd (false≢true is)
+
+stopped_stand : (at : Stand) → is_stopped at ≡ true → at ≡ stands.Stopped
+stopped_stand stands.Down is = absurd (false≢true is)
+stopped_stand stands.Stopped is = refl
+stopped_stand (stands.Primary u) is = absurd (false≢true is)
+stopped_stand (stands.Demoted u by) is = absurd (false≢true is)
+stopped_stand (stands.Replica source u next) is = absurd (false≢true is)
+stopped_stand (stands.Feeder u) is = absurd (false≢true is)
 
 -- ---- tablets
 
@@ -94,6 +102,9 @@ in_term_moved config w a u f h =
 fresh_promise : (t promised : ℕ) → nat_lt t promised ≡ false → promised ≤ t
 fresh_promise t promised h = grind (arith, nat_tests)
 
+same_number : (m n : ℕ) → (m == n) ≡ true → m ≡ n
+same_number m n h = grind (arith, nat_tests)
+
 call_moved : (config : Config) (w : World) (a : Alias) (k c u : ℕ) (call : Call) (me : Tablet) → IsPosted w.post k (contents.Asks c u a call)
     → tablet_of config.tablets a ≡ Some me → Moved config w a (after_call w.group me u call (w.tablets a))
 call_moved config w a k c u calls.Status me posted found = Stays
@@ -115,6 +126,14 @@ call_moved config w a k c u (calls.SetSource source t p) me posted found =
     (λ new. chosen (MovedBy config w a) (is_primary_of (w.tablets a).stand t || is_replica_in (w.tablets a).stand t) _ _ (λ kept. Sees u fresh)
     (λ other. chosen (MovedBy config w a) (covers p (position_of (w.tablets a).log)) _ _
     (λ inside. Joins k c u t source p posted fresh (fresh_promise t (w.tablets a).promised new) inside) (λ errant. Sees u fresh))))
+call_moved config w a k c u calls.Feed me posted found =
+    in_term_moved config w a u (feeds u)
+    (λ fresh. chosen (MovedBy config w a) (is_feeder_in (w.tablets a).stand u) _ _ (λ feeder. Sees u fresh)
+    (λ other. chosen (MovedBy config w a) (is_stopped (w.tablets a).stand && ((w.tablets a).promised == u)) _ _
+    (λ stopped. Serves k c u posted fresh (same_number (w.tablets a).promised u (both_right (is_stopped (w.tablets a).stand) ((w.tablets a).promised == u) stopped))
+    (stopped_stand (w.tablets a).stand (both_left (is_stopped (w.tablets a).stand) ((w.tablets a).promised == u) stopped)))
+    (λ keeps. Sees u fresh)))
+call_moved config w a k c u (calls.WaitFor p until) me posted found = in_term_moved config w a u (waits_for_position p) (λ fresh. Sees u fresh)
 call_moved config w a k c u (calls.WaitTold until) me posted found = in_term_moved config w a u (waits_told w.group me u) (λ fresh. Sees u fresh)
 
 -- the state with another stand
@@ -184,6 +203,8 @@ call_fits config w c a calls.Stop u met = tt
 call_fits config w c a calls.Demote u met = tt
 call_fits config w c a (calls.Promote p) u met = ([], first_is_ground config w c u a p met)
 call_fits config w c a (calls.SetSource source t p) u met = grind (arith, nat_tests)
+call_fits config w c a calls.Feed u met = tt
+call_fits config w c a (calls.WaitFor p until) u met = tt
 call_fits config w c a (calls.WaitTold until) u met = tt
 
 status_fits : (config : Config) (w : World) (c : ℕ) (a : Alias) (call : Call) → asks_status call ≡ true → CallFits (rules_of config.policy) config w 0 a call
@@ -192,6 +213,8 @@ status_fits config w c a calls.Stop is = absurd (false≢true is)
 status_fits config w c a calls.Demote is = absurd (false≢true is)
 status_fits config w c a (calls.Promote p) is = absurd (false≢true is)
 status_fits config w c a (calls.SetSource source t p) is = absurd (false≢true is)
+status_fits config w c a calls.Feed is = absurd (false≢true is)
+status_fits config w c a (calls.WaitFor p until) is = absurd (false≢true is)
 status_fits config w c a (calls.WaitTold until) is = absurd (false≢true is)
 
 by_term_fits : (config : Config) (w : World) (c : ℕ) (a : Alias) (call : Call) (t : Option ℕ)
@@ -223,6 +246,7 @@ offer_sends config w e r stands.Down content at h = absurd (let none : None ≡ 
 offer_sends config w e r stands.Stopped content at h = absurd (let none : None ≡ Some content = h in cc)
 offer_sends config w e r (stands.Primary t) content at h = absurd (let none : None ≡ Some content = h in cc)
 offer_sends config w e r (stands.Demoted t by) content at h = absurd (let none : None ≡ Some content = h in cc)
+offer_sends config w e r (stands.Feeder t) content at h = absurd (let none : None ≡ Some content = h in cc)
 offer_sends config w e r (stands.Replica s t n) content at h = of_test (may_feed w s r t n) refl h
   where
     of_test : (b : Bool) → may_feed w s r t n ≡ b → (only_if b n >>= (λ m. needed (w.tablets s) (w.tablets r) m >>= (λ x. Some (feed_of s r t n x)))) ≡ Some content

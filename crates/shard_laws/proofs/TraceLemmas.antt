@@ -1,7 +1,6 @@
 -- What holds along any worlds of which each comes from the one before by one move: what only grows, when a message was sent and when an entry came,
 -- and that an answer to a Stop or a Demote has all that its tablet had before it promised the term.
-use Rattle.std.proofs.Common.{◌≡◌, ◌⊎◌, inl, inr, ℕ, zero, suc, ◌+◌, ◌≤◌, ◌<◌, Bool, true, false, ◌||◌, ◌==◌, nat_lt, refl, ap, sym, subst, ◌∙◌, arith, List, [], ◌∷◌, ◌++◌, cond, Option, Some, None, length}
-use Rattle.std.proofs.lemmas.Bool.{false≢true}
+use Rattle.std.proofs.Common.{◌≡◌, ◌⊎◌, inl, inr, ℕ, zero, suc, ◌≤◌, ◌<◌, Bool, true, false, ◌&&◌, ◌||◌, ◌==◌, nat_lt, refl, ap, sym, subst, ◌∙◌, arith, List, [], ◌∷◌, ◌++◌, cond, Some, None, length}
 use Rattle.std.proofs.lemmas.Bool.Decides.{nat_tests}
 use Rattle.std.specs.List.{slice_get}
 use Rattle.shard_base.specs.Lists.{IsFront}
@@ -9,11 +8,8 @@ use Rattle.shard_names.specs.declared.alias.Alias.{Alias}
 use Rattle.shard_names.specs.declared.tablet.Tablet.{Tablet}
 use Rattle.durability.specs.Rules.{Rules}
 use Rattle.gtid_sets.specs.declared.entry.Entry.{Entry}
-use Rattle.gtid_sets.specs.declared.entry.Kind.{Kind}
-use Rattle.gtid_sets.specs.declared.entry.Kind.TheVariants as kinds
-use Rattle.gtid_sets.specs.Position.{Position, covers}
-use Rattle.topo_lock.specs.Topology.{Topology}
-use Rattle.topo_lock.specs.Moves.{TopoMove, TopoMoves, Rests, Goes}
+use Rattle.gtid_sets.specs.Position.{Position, covers, minus}
+use Rattle.topo_lock.specs.Moves.{TopoMoves, Rests, Goes}
 use Rattle.shard_calls.specs.declared.answer.Answer.{Answer}
 use Rattle.shard_calls.specs.declared.answer.Answer.TheVariants as answers
 use Rattle.shard_calls.specs.declared.call.Call.{Call}
@@ -23,13 +19,12 @@ use Rattle.shard_calls.specs.declared.post.Content.TheVariants as contents
 use Rattle.shard_calls.specs.declared.post.Message.{Message}
 use Rattle.shard_calls.specs.declared.stand.Stand.{Stand}
 use Rattle.shard_calls.specs.declared.stand.Stand.TheVariants as stands
-use Rattle.shard_calls.specs.Stands.{is_primary_of, is_replica_in}
+use Rattle.shard_calls.specs.Stands.{is_stopped, is_primary_of, is_replica_in, is_feeder_in}
 use Rattle.shard_calls.specs.Groups.{Group}
-use Rattle.shard_calls.specs.Logs.{position_of, has_row, newest_row, newest_row_names}
-use Rattle.shard_calls.specs.Laws.{IsSound}
-use Rattle.shard_calls.specs.Tablets.{TabletState, Verdict, opened, is_row_told, only_says, in_term, stops, demotes, promotes, joins, waits_told, after_call, answer_to}
+use Rattle.gtid_sets.specs.Logs.{position_of, has_row, newest_row, newest_row_names}
+use Rattle.shard_calls.specs.Tablets.{TabletState, Verdict, opened, is_row_told, in_term, stops, demotes, promotes, joins, feeds, waits_for_position, waits_told, after_call, answer_to}
 use Rattle.shard_calls.specs.World.{Config, IsConfig, World, numbered}
-use Rattle.shard_laws.specs.TightMoves.{IsPosted, TightMove, Stays, Sees, Stops, Demotes, Joins, Enters, Takes, Skips, Writes, WritesLocal, Hears, Promises, GoesDown, ComesUp, TabletStep, Plainly, Returning, Sends, Asks, Answers, Acks, Feeds, WorldMove}
+use Rattle.shard_laws.specs.TightMoves.{IsPosted, TightMove, Stays, Sees, Stops, Demotes, Joins, Serves, Enters, Takes, Skips, Writes, WritesLocal, Hears, Promises, GoesDown, ComesUp, TabletStep, Plainly, Returning, Sends, Asks, Answers, Acks, Feeds, WorldMove}
 use Rattle.shard_calls.proofs.LawLemmas.{chosen}
 use Rattle.shard_calls.proofs.MoveLemmas.{whole, further, one_more}
 use Rattle.shard_calls.proofs.ListLemmas.{slice_get-push_cases}
@@ -60,6 +55,7 @@ log_step ts post a s _ (Sees u le) = inl refl
 log_step ts post a s _ (Stops k c u posted le) = inl refl
 log_step ts post a s _ (Demotes k c u me posted found le own) = inl refl
 log_step ts post a s _ (Joins k c u t source p posted le new inside) = inl refl
+log_step ts post a s _ (Serves k c u posted le promised stand) = inl refl
 log_step ts post a s _ (Enters k c u p me posted found le none caught) = inr (_, refl)
 log_step ts post a s _ (Takes k term before index source e posted stand fresh) = inr (e, refl)
 log_step ts post a s _ (Skips k term before index source e posted stand held) = inl refl
@@ -84,6 +80,7 @@ promise_step ts post a s _ low (Sees u le) = omega arith
 promise_step ts post a s _ low (Stops k c u posted le) = omega (arith, low, le)
 promise_step ts post a s _ low (Demotes k c u me posted found le own) = omega (arith, low, le)
 promise_step ts post a s _ low (Joins k c u t source p posted le new inside) = new
+promise_step ts post a s _ low (Serves k c u posted le promised stand) = omega arith
 promise_step ts post a s _ low (Enters k c u p me posted found le none caught) = omega (arith, low, le)
 promise_step ts post a s _ low (Takes k term before index source e posted stand fresh) = omega arith
 promise_step ts post a s _ low (Skips k term before index source e posted stand held) = omega arith
@@ -101,7 +98,7 @@ promise_stepped ts post a s _ low (Returning move) = promise_step ts post a s _ 
 -- ---- any number of moves
 
 -- what holds of a world and itself, and goes on over a move, holds of a world and each later one
-climb : (at : ℕ → World) (R : World → World → Type 0) → ((w : World) → R w w) → ((i : ℕ) (w : World) → R w (at i) → R w (at (suc i)))
+pub climb : (at : ℕ → World) (R : World → World → Type 0) → ((w : World) → R w w) → ((i : ℕ) (w : World) → R w (at i) → R w (at (suc i)))
     → (i j : ℕ) → i ≤ j → R (at i) (at j)
 climb at R same more i zero le = let is : i ≡ 0 = omega (arith, le) in subst (λ (k : ℕ). R (at k) (at 0)) (sym is) (same (at 0))
 climb at R same more i (suc j) le = of_test (nat_lt j i) refl (λ l. climb at R same more i j l)
@@ -193,6 +190,8 @@ SaysFor (answers.Stopped newest position) u s t = SaysAll u s t newest position
 SaysFor (answers.Demoted newest position) u s t = SaysAll u s t newest position
 SaysFor (answers.Promoted position) u s t = Unit {0}
 SaysFor answers.Joined u s t = Unit {0}
+SaysFor answers.Feeding u s t = Unit {0}
+SaysFor answers.Holds u s t = Unit {0}
 SaysFor answers.Told u s t = Unit {0}
 SaysFor answers.NotTold u s t = Unit {0}
 SaysFor (answers.Kept at) u s t = Unit {0}
@@ -221,6 +220,10 @@ told_says true true u s t at = tt
 told_says true false u s t at = tt
 told_says false c u s t at = tt
 
+held_says : (b : Bool) (u : ℕ) (s t : TabletState) (lacks : Position) → SaysFor (cond b answers.Holds (answers.NotCaughtUp lacks)) u s t
+held_says true u s t lacks = tt
+held_says false u s t lacks = tt
+
 pub call_says : (g : Group) (me : Tablet) (u : ℕ) (call : Call) (s : TabletState) → SaysFor (answer_to g me u call s) u s (after_call g me u call s)
 call_says g me u calls.Status s = tt
 call_says g me u calls.Stop s =
@@ -239,6 +242,11 @@ call_says g me u (calls.SetSource source t p) s =
     (chosen (SaysSo u s) (nat_lt t s.promised) _ _ (λ ahead. tt)
     (λ fresh. chosen (SaysSo u s) (is_primary_of s.stand t || is_replica_in s.stand t) _ _ (λ stays. tt)
     (λ other. chosen (SaysSo u s) (covers p (position_of s.log)) _ _ (λ inside. tt) (λ errant. tt))))
+call_says g me u calls.Feed s =
+    in_term_says u s (feeds u)
+    (chosen (SaysSo u s) (is_feeder_in s.stand u) _ _ (λ feeder. tt) (λ other. chosen (SaysSo u s) (is_stopped s.stand && (s.promised == u)) _ _ (λ stopped. tt) (λ keeps. tt)))
+call_says g me u (calls.WaitFor p until) s =
+    in_term_says u s (waits_for_position p) (held_says (covers (position_of s.log) p) u s (record s { seen = u }) (minus p (position_of s.log)))
 call_says g me u (calls.WaitTold until) s =
     in_term_says u s (waits_told g me u) (told_says (is_primary_of s.stand u) (is_row_told g me s u) u s (record s { seen = u }) s.stand)
 
@@ -258,7 +266,7 @@ same_ask c d u v a b x y h = cc
 same_answer : (c d j k : ℕ) (a b : Alias) (x y : Answer) → contents.Answers c j a x ≡ contents.Answers d k b y → (j ≡ k) × (a ≡ b) × (x ≡ y)
 same_answer c d j k a b x y h = (cc, cc, cc)
 
-one_content : (post : List Message) (n : ℕ) (x y : Content) → IsPosted post n x → IsPosted post n y → x ≡ y
+pub one_content : (post : List Message) (n : ℕ) (x y : Content) → IsPosted post n x → IsPosted post n y → x ≡ y
 one_content post n x y p q =
     let same : p.message ≡ q.message = (let some : Some p.message ≡ Some q.message = sym p.at ∙ q.at in cc) in
     sym p.carries ∙ ap (λ (m : Message). m.content) same ∙ q.carries

@@ -1,9 +1,9 @@
 -- What is told is voted for: the primary has the entry while it promises the term, and each tablet that it counts had so many of its entries, and had
 -- promised the term, when it acknowledged them.
-use Rattle.std.proofs.Common.{◌≡◌, ◌⊎◌, inl, inr, ℕ, zero, suc, ◌+◌, ◌≤◌, ◌<◌, max, Bool, true, false, not, ◌&&◌, ◌||◌, ◌==◌, nat_lt, nat_le, refl, ap, sym, subst, ◌∙◌, arith, List, [], ◌∷◌, ◌++◌, cond, take, Option, Some, None, length, IsTrue}
+use Rattle.std.proofs.Common.{◌≡◌, ◌⊎◌, inl, inr, ℕ, zero, suc, ◌≤◌, ◌<◌, max, Bool, true, false, ◌||◌, nat_lt, nat_le, refl, ap, sym, subst, ◌∙◌, arith, List, [], ◌∷◌, ◌++◌, cond, Option, Some, None, length}
 use Rattle.std.proofs.lemmas.Bool.{false≢true}
 use Rattle.std.proofs.lemmas.Bool.Decides.{nat_tests}
-use Rattle.std.specs.List.{slice_get, Contains}
+use Rattle.std.specs.List.{slice_get}
 use Rattle.shard_base.specs.Lists.{IsFront}
 use Rattle.shard_names.specs.declared.alias.Alias.{Alias}
 use Rattle.shard_names.specs.declared.tablet.Tablet.{Tablet}
@@ -11,7 +11,6 @@ use Rattle.shard_names.specs.Tablets.{alias_eq, tablet_of}
 use Rattle.shard_names.proofs.TabletLemmas.{alias_eq_is}
 use Rattle.durability.specs.Rules.{Rules, is_eligible}
 use Rattle.durability.proofs.SearchLemmas.{found_in}
-use Rattle.replication.specs.Acks.{Acked, raised}
 use Rattle.replication.specs.Told.{holders}
 use Rattle.gtid_sets.specs.declared.entry.Entry.{Entry}
 use Rattle.gtid_sets.specs.declared.entry.Kind.{Kind}
@@ -21,31 +20,28 @@ use Rattle.shard_calls.specs.declared.post.Content.TheVariants as contents
 use Rattle.shard_calls.specs.declared.post.Message.{Message}
 use Rattle.shard_calls.specs.declared.stand.Stand.{Stand}
 use Rattle.shard_calls.specs.declared.stand.Stand.TheVariants as stands
-use Rattle.shard_calls.specs.Stands.{is_primary_of, takes_from}
+use Rattle.shard_calls.specs.Stands.{takes_from}
 use Rattle.shard_calls.specs.Laws.{IsPromised, HasItsRow}
-use Rattle.shard_calls.specs.Logs.{has_row}
-use Rattle.shard_calls.specs.Tablets.{TabletState, opened, accepts}
+use Rattle.gtid_sets.specs.Logs.{has_row}
+use Rattle.shard_calls.specs.Tablets.{TabletState, accepts}
 use Rattle.shard_calls.specs.RunLaws.{IsIn}
 use Rattle.shard_calls.specs.World.{Config, World, numbered}
 use Rattle.shard_calls.specs.Grounds.{may_lead}
-use Rattle.shard_laws.specs.TightMoves.{IsPosted, TightMove, Stays, Sees, Stops, Demotes, Joins, Enters, Takes, Skips, Writes, WritesLocal, Hears, Promises, GoesDown, ComesUp, TabletStep, Plainly, Returning, Sends, Asks, Answers, Acks, Feeds}
+use Rattle.shard_laws.specs.TightMoves.{IsPosted, TightMove, Stays, Sees, Stops, Demotes, Joins, Serves, Enters, Takes, Skips, Writes, WritesLocal, Hears, Promises, GoesDown, ComesUp, TabletStep, Plainly, Returning, Sends, Asks, Answers, Acks, Feeds}
 use Rattle.shard_calls.proofs.LawLemmas.{chosen}
-use Rattle.shard_calls.proofs.MoveLemmas.{whole}
 use Rattle.shard_calls.proofs.ListLemmas.{slice_get-push_cases, at_end}
 use Rattle.shard_calls.proofs.WorldLemmas.{IsSoundWorld, Fits, get_front}
 use Rattle.shard_calls.proofs.ClosureLemmas.{IsClosedWorld, Says, Follows, Bridges, below_length, get_back}
 use Rattle.shard_calls.proofs.ClosedLemmas.{has_before, taken_stand}
 use Rattle.shard_calls.proofs.StepLemmas.{alias_found}
-use Rattle.shard_calls.proofs.RunLemmas.{own_row, row_found, row_kind}
+use Rattle.shard_calls.proofs.RunLemmas.{row_found, row_kind}
 use Rattle.shard_laws.proofs.TightLemmas.{primary_stand}
-use Rattle.shard_laws.proofs.TraceLemmas.{Trace, LogStep, log_step, front_step, logs_later, was_sent, was_added}
-use Rattle.shard_laws.specs.Traces.{Votes, AsPrimary, ByAck, IsVote, IsOfTerm, IsToldIn}
-use Rattle.shard_calls.proofs.WorldLemmas.{IsIntended, intended_stays}
-use Rattle.topo_lock.specs.Moves.{TopoMove}
-use Rattle.shard_calls.specs.Logs.{holds, next_gtid}
-use Rattle.shard_calls.proofs.EntryLemmas.{held_gtid}
-use Rattle.shard_laws.proofs.GroundLemmas.{Voted, Promoted, ToldBy, story_of, is_entered, row_promoted, one_intent, intended_later, row_tested, home_held, the_last, no_more, row_in_front}
-use Rattle.shard_laws.proofs.LeaderCore.{HasRow, IsVotedFor, IsPromoted}
+use Rattle.shard_laws.proofs.TraceLemmas.{Trace, front_step, logs_later, was_sent, was_added}
+use Rattle.shard_laws.specs.Traces.{AsPrimary, ByAck, IsVote, IsOfTerm, IsToldIn}
+use Rattle.shard_calls.proofs.WorldLemmas.{IsIntended}
+use Rattle.gtid_sets.specs.Logs.{next_gtid}
+use Rattle.shard_laws.proofs.GroundLemmas.{ToldBy, story_of, is_entered, row_promoted, one_intent, intended_later, row_tested}
+use Rattle.shard_laws.proofs.LeaderCore.{HasRow, IsVotedFor}
 
 same_primary : (at : Stand) (t u : ℕ) → at ≡ stands.Primary t → at ≡ stands.Primary u → t ≡ u
 same_primary at t u p q = let same : stands.Primary t ≡ stands.Primary u = sym p ∙ q in cc
@@ -62,6 +58,7 @@ noted_step rules config at trace i a s _ (Sees v le) h u r k stand acked = let p
 noted_step rules config at trace i a s _ (Stops l c v posted le) h u r k stand acked = absurd (let wrong : stands.Stopped ≡ stands.Primary u = stand in cc)
 noted_step rules config at trace i a s _ (Demotes l c v me posted found le own) h u r k stand acked = absurd (cc)
 noted_step rules config at trace i a s _ (Joins l c v t source p posted le new inside) h u r k stand acked = absurd (cc)
+noted_step rules config at trace i a s _ (Serves l c v posted le promised was) h u r k stand acked = absurd (let wrong : stands.Feeder v ≡ stands.Primary u = stand in cc)
 noted_step rules config at trace i a s _ (Enters l c v p me posted found le none caught) h u r k stand acked = absurd (let wrong : 0 ≡ suc k = acked in omega (arith, wrong))
 noted_step rules config at trace i a s _ (Takes l term before index source e posted was fresh) h u r k stand acked = absurd (cc)
 noted_step rules config at trace i a s _ (Skips l term before index source e posted was held) h u r k stand acked = absurd (cc)
@@ -114,6 +111,7 @@ own_step config post a s _ (Sees v le) h u stand = h u stand
 own_step config post a s _ (Stops l c v posted le) h u stand = absurd (let wrong : stands.Stopped ≡ stands.Primary u = stand in cc)
 own_step config post a s _ (Demotes l c v me posted found le own) h u stand = absurd (cc)
 own_step config post a s _ (Joins l c v t source p posted le new inside) h u stand = absurd (cc)
+own_step config post a s _ (Serves l c v posted le promised was) h u stand = absurd (let wrong : stands.Feeder v ≡ stands.Primary u = stand in cc)
 own_step config post a s _ (Enters l c v p me posted found le none caught) h u stand =
     let term : v ≡ u = (let same : stands.Primary v ≡ stands.Primary u = stand in cc) in
     (length s.log, _, at_end s.log _, ap (λ (x : ℕ). kinds.Row x me.alias) term ∙ ap (λ (x : Alias). kinds.Row u x) (alias_found config a me found))
@@ -192,6 +190,7 @@ first_step rules config at trace i a _ (Sees v le) h = h a
 first_step rules config at trace i a _ (Stops l c v posted le) h = h a
 first_step rules config at trace i a _ (Demotes l c v me posted found le own) h = h a
 first_step rules config at trace i a _ (Joins l c v t source p posted le new inside) h = h a
+first_step rules config at trace i a _ (Serves l c v posted le promised was) h = h a
 first_step rules config at trace i a _ (Enters l c v p me posted found le none caught) h = more_first ((at i).tablets a).log _ (h a) (λ t client number wrong. absurd (cc))
 first_step rules config at trace i a _ (Takes l term before index source e posted stand fresh) h =
     more_first ((at i).tablets a).log e (h a) (λ t client number is.
@@ -259,6 +258,7 @@ wrote_step rules config at trace i a _ then (Sees v le) h t n e stand here of_te
 wrote_step rules config at trace i a _ then (Stops l c v posted le) h t n e stand here of_term = absurd (let wrong : stands.Stopped ≡ stands.Primary t = stand in cc)
 wrote_step rules config at trace i a _ then (Demotes l c v me posted found le own) h t n e stand here of_term = absurd (cc)
 wrote_step rules config at trace i a _ then (Joins l c v w source p posted le new inside) h t n e stand here of_term = absurd (cc)
+wrote_step rules config at trace i a _ then (Serves l c v posted le promised was) h t n e stand here of_term = absurd (let wrong : stands.Feeder v ≡ stands.Primary t = stand in cc)
 wrote_step rules config at trace i a _ then (Enters l c v p me posted found le none caught) h t n e stand here of_term =
     of_cases (slice_get-push_cases ((at i).tablets a).log (record { gtid = next_gtid me.server ((at i).tablets a).log; kind = kinds.Row v me.alias }) e n here)
   where

@@ -1,3 +1,7 @@
 pub mod TightMoves
 pub mod Traces
+pub mod OneTablet
+pub mod Network
+pub mod Shown
 pub mod Safe
+pub mod Examples

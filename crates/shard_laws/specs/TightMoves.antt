@@ -1,6 +1,6 @@
 -- What a step may do to each tablet, to the post and to the topology, whatever event it is of. After the tablet manager of Vitess (Vitess manual),
 -- replication (MySQL 8.0 manual) and the terms of Sougoumarane's "Consensus algorithms at scale".
-use Rattle.std.specs.Prelude.{◌≡◌, ◌≤◌, ◌⊎◌, ℕ, ◌+◌, Bool, true, false, ◌==◌, List, [], ◌∷◌, ◌++◌, ⊤, Option, Some, None}
+use Rattle.std.specs.Prelude.{◌≡◌, ◌≤◌, ◌⊎◌, ℕ, ◌+◌, true, false, List, [], ◌∷◌, ◌++◌, ⊤, Option, Some, None}
 use Rattle.shard_names.specs.declared.alias.Alias.{Alias}
 use Rattle.shard_names.specs.declared.tablet.Tablet.{Tablet}
 use Rattle.shard_names.specs.Tablets.{tablet_of}
@@ -15,12 +15,11 @@ use Rattle.shard_calls.specs.declared.call.Call.TheVariants as calls
 use Rattle.shard_calls.specs.declared.post.Content.{Content}
 use Rattle.shard_calls.specs.declared.post.Content.TheVariants as contents
 use Rattle.shard_calls.specs.declared.post.Message.{Message}
-use Rattle.shard_calls.specs.declared.post.Settled.{Settled}
 use Rattle.shard_calls.specs.declared.post.Settled.TheVariants as settleds
 use Rattle.shard_calls.specs.declared.answer.Answer.{Answer}
 use Rattle.shard_calls.specs.declared.stand.Stand.TheVariants as stands
-use Rattle.shard_calls.specs.Stands.{is_down, takes_from, waits_for}
-use Rattle.shard_calls.specs.Logs.{position_of, holds, has_row, with_own, newest_row, newest_row_names}
+use Rattle.shard_calls.specs.Stands.{is_down, takes_from}
+use Rattle.gtid_sets.specs.Logs.{position_of, holds, has_row, with_own, newest_row, newest_row_names}
 use Rattle.shard_calls.specs.Tablets.{TabletState, with_row, after_call, answer_to, accepts}
 use Rattle.shard_calls.specs.World.{Config, World, numbered}
 use Rattle.shard_calls.specs.Messages.{Indexed, needed, feeds_term}
@@ -51,6 +50,9 @@ pub data TightMove (tablets : List Tablet) (post : List Message) (a : Alias) : T
   Joins : {s : TabletState} (k c u t : ℕ) (source : Alias) (p : Position) → IsPosted post k (contents.Asks c u a (calls.SetSource source t p)) → s.seen ≤ u
       → s.promised ≤ t → covers p (position_of s.log) ≡ true
       → TightMove tablets post a s (record s { seen = u; promised = t; stand = stands.Replica source t 1 })
+  -- a Feed of the term in which it stopped
+  Serves : {s : TabletState} (k c u : ℕ) → IsPosted post k (contents.Asks c u a calls.Feed) → s.seen ≤ u → s.promised ≡ u → s.stand ≡ stands.Stopped
+      → TightMove tablets post a s (record s { seen = u; stand = stands.Feeder u })
   -- a Promote of u, whose row the log has not, and whose position it covers: the row of u enters
   Enters : {s : TabletState} (k c u : ℕ) (p : Position) (me : Tablet) → IsPosted post k (contents.Asks c u a (calls.Promote p))
       → tablet_of tablets a ≡ Some me → s.seen ≤ u → has_row s.log u ≡ false → covers (position_of s.log) p ≡ true
@@ -131,6 +133,8 @@ CallFits rules config w u a calls.Stop = ⊤
 CallFits rules config w u a calls.Demote = ⊤
 CallFits rules config w u a (calls.Promote p) = (acts : List Act) × (grounded rules config.tablets w.topo (sendings w.post acts) u a p ≡ true)
 CallFits rules config w u a (calls.SetSource source t p) = t ≤ u
+CallFits rules config w u a calls.Feed = ⊤
+CallFits rules config w u a (calls.WaitFor p until) = ⊤
 CallFits rules config w u a (calls.WaitTold until) = ⊤
 
 -- what a step from one world to the next may send

@@ -1,6 +1,6 @@
 -- Worlds of which each comes from the one before by one move, from one in which nothing has happened; and what holds along them, whatever the
 -- durability policy is: who votes for an entry, what is told, and that a later leader has it (after Sougoumarane's "Consensus algorithms at scale").
-use Rattle.std.specs.Prelude.{◌≡◌, ◌≤◌, ◌<◌, ℕ, suc, true, List, [], ◌∷◌, ◌++◌, take, Option, Some, None, slice_get, IsTrue, Contains, ⊤}
+use Rattle.std.specs.Prelude.{◌≡◌, ◌≤◌, ◌<◌, ℕ, suc, true, List, [], ◌∷◌, ◌++◌, take, Some, None, slice_get, IsTrue, Contains}
 use Rattle.shard_base.specs.Lists.{IsFront}
 use Rattle.shard_names.specs.declared.alias.Alias.{Alias}
 use Rattle.shard_names.specs.declared.tablet.Tablet.{Tablet}
@@ -22,7 +22,7 @@ use Rattle.shard_calls.specs.declared.call.Call.{Call}
 use Rattle.shard_calls.specs.declared.post.Content.TheVariants as contents
 use Rattle.shard_calls.specs.declared.stand.Stand.TheVariants as stands
 use Rattle.shard_calls.specs.Stands.{is_primary_of}
-use Rattle.shard_calls.specs.Logs.{position_of, newest_row}
+use Rattle.gtid_sets.specs.Logs.{position_of, newest_row}
 use Rattle.shard_calls.specs.Tablets.{opened}
 use Rattle.shard_calls.specs.RunLaws.{IsIn, HasFirst}
 use Rattle.shard_calls.specs.World.{Config, IsConfig, World, numbered}

@@ -5,6 +5,7 @@ ghost use Rattle.std.specs.Prelude.{List};
 ghost use Rattle.shard_calls.specs.Promotions.{HoldsTold, world_at};
 ghost use Rattle.shard_calls.specs.RunLaws.{OfEveryShard};
 ghost use Rattle.shard_calls.specs.Table.{IsRun, Met, after};
+ghost use Rattle.shard_laws.specs.Examples.{GroundsAreWorked};
 ghost use Rattle.shard_laws.specs.Safe.{IsSafe};
 ghost use Rattle.shard_laws.specs.TightMoves.{SitesAreShown, WorldMove};
 ghost use Rattle.shard_laws.specs.Traces.{AcksSayTruth, EmergencyIsRevoked, IsTrace, LeaderIsComplete, OfEveryTrace, RowsAreClosed, ToldIsVoted, VotesAreAnswered};
@@ -53,4 +54,9 @@ pub fn sites_are_shown()
 /// All that holds of every history, gathered.
 pub fn every_history_is_safe()
     ensures { OfEveryShard IsSafe }
+{}
+
+/// Worked histories in which a second promotion has its grounds, planned and in an emergency, and others in which it has not.
+pub fn worked_grounds()
+    ensures { GroundsAreWorked }
 {}

@@ -9,10 +9,12 @@ use Rattle.shard_names.specs.ShardName.{shard_name_reading}
 use Rattle.shard_names.specs.declared.alias.Alias.{Alias}
 use Rattle.shard_names.specs.declared.alias.NameFault.{NameFault}
 use Rattle.shard_names.specs.declared.shard_name.ShardName.{ShardName}
-use Rattle.shard_calls.specs.declared.command.Command.TheVariants.{Planned, Write, Show}
+use Rattle.shard_calls.specs.declared.command.Command.{Command}
+use Rattle.shard_calls.specs.declared.command.Command.TheVariants.{Planned, External, Write, Show}
+use Rattle.shard_calls.specs.Begins.{is_in_time}
 use Rattle.shard_script.specs.declared.command.Given.{Given}
 use Rattle.shard_script.specs.Numbers.{number_within}
-use Rattle.shard_script.specs.Commands.{planned_command, write_command, write_to_command, show_command, command_of_two, command_of_four}
+use Rattle.shard_script.specs.Commands.{reparent_to, planned_command, write_command, write_to_command, show_command, command_of_two, command_of_four}
 use Rattle.shard_script.specs.Grammar.{IsPlanned, IsWrite, IsWriteTo, IsOfTablet, IsCommand}
 use Rattle.shard_script.proofs.OptionLemmas.{cond_some, bind_some, ok_some, same_bytes, choose}
 use Rattle.shard_script.proofs.NumberLemmas.{within_of, within_reads}
@@ -26,14 +28,17 @@ IsGiven words g = IsCommand words g.command g.count
 planned_of : (name option alias : List ℕ) (g : Given) → planned_command name option alias ≡ Some g → IsGiven (codes "PlannedReparentShard" ∷ name ∷ option ∷ alias ∷ []) g
 unfolding planned_command
 planned_of name option alias g h =
-    let p = cond_some (bytes_eq option (codes "--new-primary")) (shard_name_reading name >>= (λ n. result_ok (alias_reading alias) >>= (λ a. Some (record { command = Planned n a; count = 1 })))) g h in
-    let q = bind_some (shard_name_reading name) (λ n. result_ok (alias_reading alias) >>= (λ a. Some (record { command = Planned n a; count = 1 }))) g p.1 in
-    let r = bind_some (result_ok (alias_reading alias)) (λ a. Some (record { command = Planned q.0 a; count = 1 })) g q.2 in
-    let made : Given = record { command = Planned q.0 r.0; count = 1 } in
+    let p = cond_some (bytes_eq option (codes "--new-primary")) (shard_name_reading name >>= (λ n. result_ok (alias_reading alias) >>= (λ a. Some (record { command = reparent_to n a; count = 1 })))) g h in
+    let q = bind_some (shard_name_reading name) (λ n. result_ok (alias_reading alias) >>= (λ a. Some (record { command = reparent_to n a; count = 1 }))) g p.1 in
+    let r = bind_some (result_ok (alias_reading alias)) (λ a. Some (record { command = reparent_to q.0 a; count = 1 })) g q.2 in
+    let made : Given = record { command = reparent_to q.0 r.0; count = 1 } in
     let is : made ≡ g = (let e : Some made ≡ Some g = r.2 in cc) in
     let word : option ≡ codes "--new-primary" = same_bytes option (codes "--new-primary") p.0 in
     subst (λ (f : Given). IsGiven (codes "PlannedReparentShard" ∷ name ∷ option ∷ alias ∷ []) f) is (
       record {
+        name = q.0;
+        new_primary = r.0;
+        command_is = refl;
         name_text = name;
         alias_text = alias;
         words_are = ap (λ (t : List ℕ). codes "PlannedReparentShard" ∷ name ∷ t ∷ alias ∷ []) word;
@@ -98,11 +103,19 @@ four_of a b c d g h =
 
 -- ---- from what is said to what is read
 
-pub planned_is : (words : List (List ℕ)) (name : ShardName) (a : Alias) (h : IsPlanned words name a) → planned_command h.name_text (codes "--new-primary") h.alias_text ≡ Some (record { command = Planned name a; count = 1 })
+pub planned_is : (words : List (List ℕ)) (command : Command) (h : IsPlanned words command) → planned_command h.name_text (codes "--new-primary") h.alias_text ≡ Some (record { command = command; count = 1 })
 unfolding planned_command
-planned_is words name a h =
-    ap (λ (o : Option ShardName). let r : Option Given = option_and_then (λ n. result_ok (alias_reading h.alias_text) >>= (λ b. Some (record { command = Planned n b; count = 1 }))) o in r) h.name_is
-    ∙ ap (λ (r : Result Alias NameFault). let o : Option Given = option_and_then (λ b. Some (record { command = Planned name b; count = 1 })) (result_ok r) in o) h.alias_is
+planned_is words command h =
+    ap (λ (o : Option ShardName). let r : Option Given = option_and_then (λ n. result_ok (alias_reading h.alias_text) >>= (λ b. Some (record { command = reparent_to n b; count = 1 }))) o in r) h.name_is
+    ∙ ap (λ (r : Result Alias NameFault). let o : Option Given = option_and_then (λ b. Some (record { command = reparent_to h.name b; count = 1 })) (result_ok r) in o) h.alias_is
+    ∙ ap (λ (c : Command). let o : Option Given = Some (record { command = c; count = 1 }) in o) (sym h.command_is)
+
+-- a command that words give waits a day for an answer at most
+pub in_time : (words : List (List ℕ)) (command : Command) (n : ℕ) → IsCommand words command n → is_in_time command ≡ true
+in_time words (Planned name given avoid expected timeout allow_cross_cell) n h = ap (λ (c : Command). is_in_time c) h.0.command_is
+in_time words (External a) n h = absurd h
+in_time words (Write to) n h = refl
+in_time words (Show a) n h = refl
 
 pub write_is : (words : List (List ℕ)) (n : ℕ) (h : IsWrite words n) → write_command h.digits ≡ Some (record { command = Write None; count = n })
 unfolding write_command

@@ -14,7 +14,7 @@ use Rattle.shard_names.specs.declared.tablet.Tablet.{Tablet as TabletData}
 use Rattle.shard_names.specs.Tablets.{alias_eq, ServersDiffer}
 use Rattle.shard_names.proofs.TabletLemmas.{alias_eq-Decides}
 use Rattle.durability.specs.declared.policy.Durability.{Durability}
-use Rattle.shard_calls.specs.declared.command.Command.TheVariants.{Planned, Write, Show}
+use Rattle.shard_calls.specs.declared.command.Command.TheVariants.{Planned, External, Write, Show}
 use Rattle.shard_script.specs.declared.line.Line.{Line}
 use Rattle.shard_script.specs.declared.line.Line.TheVariants.{Shard, Tablet, Act}
 use Rattle.shard_script.specs.declared.script.Action.{Action}
@@ -186,10 +186,12 @@ pub permuted_all : (ds : List TabletData) → IsPermutation ds (placed [] ds)
 permuted_all ds = subst (λ (xs : List TabletData). IsPermutation xs (placed [] ds)) (append-nil ds) (permuted [] ds)
 
 of_this : (o : Option ShardName) (name : ShardName) → o ≡ Some name → (x : Action) → FitsShard o x → IsOfShard name x
-of_this o name is (actions.Play (Planned n a) k) h = let e : Some n ≡ Some name = sym h.0 ∙ is in cc
+of_this o name is (actions.Play (Planned n given avoid expected timeout allow_cross_cell) k) h = let e : Some n ≡ Some name = sym h.0 ∙ is in cc
+of_this o name is (actions.Play (External a) k) h = tt
 of_this o name is (actions.Play (Write to) k) h = tt
 of_this o name is (actions.Play (Show a) k) h = tt
-of_this o name is (actions.Start starter (Planned n a)) h = let e : Some n ≡ Some name = sym h ∙ is in cc
+of_this o name is (actions.Start starter (Planned n given avoid expected timeout allow_cross_cell)) h = let e : Some n ≡ Some name = sym h ∙ is in cc
+of_this o name is (actions.Start starter (External a)) h = tt
 of_this o name is (actions.Start starter (Write to)) h = tt
 of_this o name is (actions.Start starter (Show a)) h = tt
 of_this o name is (actions.Turn starter pumps) h = tt
@@ -203,7 +205,7 @@ of_this o name is (actions.Mend x y) h = tt
 of_this o name is (actions.Lose message) h = tt
 of_this o name is (actions.Repeat message) h = tt
 of_this o name is actions.Lapse h = tt
-of_this o name is (actions.Tick milliseconds) h = tt
+of_this o name is (actions.Tick ms) h = tt
 
 first_line : (line : Line) → admits empty_script line ≡ true → (name : ShardName) × (policy : Durability) × (line ≡ Shard name policy)
 first_line (Shard name policy) ok = (name, policy, refl)

@@ -14,7 +14,7 @@ use Rattle.shard_names.specs.declared.tablet.TabletType.TheVariants.{Replica, Rd
 use Rattle.durability.specs.declared.policy.Durability.{Durability}
 use Rattle.durability.specs.Policies.{policy_name}
 use Rattle.shard_calls.specs.declared.command.Command.{Command}
-use Rattle.shard_calls.specs.declared.command.Command.TheVariants.{Planned, Write, Show}
+use Rattle.shard_calls.specs.declared.command.Command.TheVariants.{Planned, External, Write, Show}
 use Rattle.shard_calls.specs.declared.event.Link.{Link}
 use Rattle.shard_calls.specs.declared.event.Side.{Side}
 use Rattle.shard_calls.specs.declared.event.Side.TheVariants as sides
@@ -57,9 +57,11 @@ tablet_read line t h =
 -- a command that is played
 play_read : (line : List ℕ) (command : Command) (n : ℕ) → IsCommand (words_of line) command n → line_of line ≡ Some (Act (Play command n))
 unfolding line_of_words play_line
-play_read line (Planned name a) n h =
-    ap (λ (ws : List (List ℕ)). line_of_words ws) h.0.words_are ∙ ap (λ (o : Option Given). play_line o) (planned_is (words_of line) name a h.0)
-    ∙ ap (λ (k : ℕ). Some (Act (Play (Planned name a) k))) (sym h.1)
+play_read line (Planned name given avoid expected timeout allow_cross_cell) n h =
+    let command = Planned name given avoid expected timeout allow_cross_cell in
+    ap (λ (ws : List (List ℕ)). line_of_words ws) h.0.words_are ∙ ap (λ (o : Option Given). play_line o) (planned_is (words_of line) command h.0)
+    ∙ ap (λ (k : ℕ). Some (Act (Play command k))) (sym h.1)
+play_read line (External a) n h = absurd h
 play_read line (Write None) n h =
     ap (λ (ws : List (List ℕ)). line_of_words ws) h.words_are ∙ ap (λ (o : Option Given). play_line o) (write_is (words_of line) n h)
 play_read line (Write (Some a)) n h =
@@ -77,8 +79,10 @@ started name command is_name =
 -- the words of a command behind `start NAME`
 start_words : (name : List ℕ) (words : List (List ℕ)) (command : Command) → IsCommand words command 1 → line_of_words (codes "start" ∷ name ∷ words) ≡ start_line name (Some (record { command = command; count = 1 }))
 unfolding line_of_words
-start_words name words (Planned shard a) h =
-    ap (λ (ws : List (List ℕ)). line_of_words (codes "start" ∷ name ∷ ws)) h.0.words_are ∙ ap (λ (o : Option Given). start_line name o) (planned_is words shard a h.0)
+start_words name words (Planned shard given avoid expected timeout allow_cross_cell) h =
+    let command = Planned shard given avoid expected timeout allow_cross_cell in
+    ap (λ (ws : List (List ℕ)). line_of_words (codes "start" ∷ name ∷ ws)) h.0.words_are ∙ ap (λ (o : Option Given). start_line name o) (planned_is words command h.0)
+start_words name words (External a) h = absurd h
 start_words name words (Write None) h =
     ap (λ (ws : List (List ℕ)). line_of_words (codes "start" ∷ name ∷ ws)) h.words_are ∙ ap (λ (o : Option Given). start_line name o) (write_is words 1 h)
 start_words name words (Write (Some a)) h =

@@ -13,7 +13,8 @@ use Rattle.shard_names.specs.declared.tablet.Tablet.{Tablet as TabletData}
 use Rattle.shard_names.specs.Tablets.{AreTablets}
 use Rattle.durability.specs.declared.policy.Durability.{Durability}
 use Rattle.durability.specs.declared.policy.Durability.TheVariants as policies
-use Rattle.shard_calls.specs.declared.command.Command.TheVariants.{Planned, Write, Show}
+use Rattle.shard_calls.specs.declared.command.Command.{Command}
+use Rattle.shard_calls.specs.declared.command.Command.TheVariants.{Planned, External, Write, Show}
 use Rattle.shard_script.specs.declared.line.Line.{Line}
 use Rattle.shard_script.specs.declared.line.Line.TheVariants.{Shard, Tablet, Act}
 use Rattle.shard_script.specs.declared.script.Action.{Action}
@@ -22,11 +23,12 @@ use Rattle.shard_script.specs.declared.script.Script.{Script}
 use Rattle.shard_script.specs.declared.script.ScriptFault.{ScriptFault}
 use Rattle.shard_script.specs.Names.{IsName, has_name, started_by, started, NamesDiffer, IsKnown, AreKnown}
 use Rattle.shard_script.specs.Aliases.{NamesDeclared, are_ends}
-use Rattle.shard_script.specs.Lines.{line_of}
-use Rattle.shard_script.specs.Grammar.{Says}
-use Rattle.shard_script.specs.Script.{Gives, Fits, FitsShard, read_on, read_lines, with_bytes, reading, admits, admits_command, admits_name, admits_action, with_line, has_alias, has_server, all_declared, in_place, is_shard, empty_script, fault_behind, lines_of, ended_lines, first_bytes}
+use Rattle.shard_script.specs.Lines.{words_of, line_of}
+use Rattle.shard_script.specs.Grammar.{IsCommand, IsActionLine, Says}
+use Rattle.shard_script.specs.Script.{Gives, Fits, FitsShard, IsInTime, read_on, read_lines, with_bytes, reading, admits, admits_command, admits_name, admits_action, with_line, has_alias, has_server, all_declared, in_place, is_shard, empty_script, fault_behind, lines_of, ended_lines, first_bytes}
 use Rattle.shard_script.proofs.OptionLemmas.{and_both, not_true}
 use Rattle.shard_script.proofs.NameLemmas.{started_more, known_more, differ_more, known_is}
+use Rattle.shard_script.proofs.CommandLemmas.{in_time}
 use Rattle.shard_script.proofs.LineLemmas.{says_of}
 use Rattle.shard_script.proofs.DeclaredLemmas.{names_declared}
 use Rattle.shard_script.proofs.TabletsInOrder.{length-in_place, rises-in_place, apart-in_place}
@@ -44,6 +46,7 @@ record SoFar (place : ℕ) (s : Script) : Type 0 where
   named : s.shard ≡ None → (s.tablets ≡ []) × (s.actions ≡ [])
   unnamed : s.shard ≡ None → s.policy ≡ policies.None
   actions : All (FitsShard s.shard) s.actions
+  in_time : All IsInTime s.actions
   few : length s.actions < place
   declared : All (NamesDeclared s.tablets) s.actions
   starts : s.names ≡ started s.actions
@@ -52,12 +55,27 @@ record SoFar (place : ℕ) (s : Script) : Type 0 where
   names_differ : NamesDiffer s.names
   known : AreKnown [] s.actions
 
+-- words that are read give it
+IsRead : Command → Type 0
+IsRead (Planned name given avoid expected timeout allow_cross_cell) = ⊤
+IsRead (External a) = ⊥
+IsRead (Write to) = ⊤
+IsRead (Show a) = ⊤
+
+is_read : (words : List (List ℕ)) (command : Command) (n : ℕ) → IsCommand words command n → IsRead command
+unfolding IsRead
+is_read words (Planned name given avoid expected timeout allow_cross_cell) n h = tt
+is_read words (External a) n h = absurd h
+is_read words (Write to) n h = tt
+is_read words (Show a) n h = tt
+
 -- what an action's line says of its numbers and its name
 CountedAction : Action → Type 0
-CountedAction (actions.Play (Planned name a) n) = n ≡ 1
+CountedAction (actions.Play (Planned name given avoid expected timeout allow_cross_cell) n) = n ≡ 1
+CountedAction (actions.Play (External a) n) = ⊥
 CountedAction (actions.Play (Write to) n) = (1 ≤ n) × (n ≤ 100)
 CountedAction (actions.Play (Show a) n) = n ≡ 1
-CountedAction (actions.Start name command) = IsName name
+CountedAction (actions.Start name command) = IsName name × IsRead command
 CountedAction (actions.Turn name pumps) = (1 ≤ pumps) × (pumps ≤ 1000000)
 CountedAction (actions.Finish name) = ⊤
 CountedAction actions.Settle = ⊤
@@ -69,34 +87,55 @@ CountedAction (actions.Mend x y) = are_ends x y ≡ true
 CountedAction (actions.Lose message) = ⊤
 CountedAction (actions.Repeat message) = ⊤
 CountedAction actions.Lapse = ⊤
-CountedAction (actions.Tick milliseconds) = milliseconds ≤ 86400000
+CountedAction (actions.Tick ms) = ms ≤ 86400000
 
 Counted : Line → Type 0
 Counted (Shard name policy) = ⊤
 Counted (Tablet t) = ⊤
-Counted (Act x) = CountedAction x
+Counted (Act x) = CountedAction x × IsInTime x
+
+counted_action : (line : List ℕ) (x : Action) → IsActionLine line x → CountedAction x
+unfolding CountedAction
+counted_action line (actions.Play (Planned name given avoid expected timeout allow_cross_cell) n) h = h.1
+counted_action line (actions.Play (External a) n) h = absurd h
+counted_action line (actions.Play (Write None) n) h = (h.from_one, h.to_hundred)
+counted_action line (actions.Play (Write (Some a)) n) h = (h.from_one, h.to_hundred)
+counted_action line (actions.Play (Show a) n) h = h.1
+counted_action line (actions.Start name command) h = (h.is_name, is_read h.command_words command 1 h.once)
+counted_action line (actions.Turn name pumps) h = (h.from_one, h.to_million)
+counted_action line (actions.Finish name) h = tt
+counted_action line actions.Settle h = tt
+counted_action line (actions.Local a) h = tt
+counted_action line (actions.Crash a keep) h = tt
+counted_action line (actions.Restart a) h = tt
+counted_action line (actions.Cut x y) h = h.ends
+counted_action line (actions.Mend x y) h = h.ends
+counted_action line (actions.Lose message) h = tt
+counted_action line (actions.Repeat message) h = tt
+counted_action line actions.Lapse h = tt
+counted_action line (actions.Tick ms) h = h.to_a_day
+
+action_in_time : (line : List ℕ) (x : Action) → IsActionLine line x → IsInTime x
+action_in_time line (actions.Play command n) h = in_time (words_of line) command n h
+action_in_time line (actions.Start name command) h = in_time h.command_words command 1 h.once
+action_in_time line (actions.Turn name pumps) h = tt
+action_in_time line (actions.Finish name) h = tt
+action_in_time line actions.Settle h = tt
+action_in_time line (actions.Local a) h = tt
+action_in_time line (actions.Crash a keep) h = tt
+action_in_time line (actions.Restart a) h = tt
+action_in_time line (actions.Cut x y) h = tt
+action_in_time line (actions.Mend x y) h = tt
+action_in_time line (actions.Lose message) h = tt
+action_in_time line (actions.Repeat message) h = tt
+action_in_time line actions.Lapse h = tt
+action_in_time line (actions.Tick ms) h = tt
 
 counted : (line : List ℕ) (x : Line) → Says line x → Counted x
-unfolding Counted CountedAction
+unfolding Counted
 counted line (Shard name policy) h = tt
 counted line (Tablet t) h = tt
-counted line (Act (actions.Play (Planned name a) n)) h = h.1
-counted line (Act (actions.Play (Write None) n)) h = (h.from_one, h.to_hundred)
-counted line (Act (actions.Play (Write (Some a)) n)) h = (h.from_one, h.to_hundred)
-counted line (Act (actions.Play (Show a) n)) h = h.1
-counted line (Act (actions.Start name command)) h = h.is_name
-counted line (Act (actions.Turn name pumps)) h = (h.from_one, h.to_million)
-counted line (Act (actions.Finish name)) h = tt
-counted line (Act actions.Settle) h = tt
-counted line (Act (actions.Local a)) h = tt
-counted line (Act (actions.Crash a keep)) h = tt
-counted line (Act (actions.Restart a)) h = tt
-counted line (Act (actions.Cut x y)) h = h.ends
-counted line (Act (actions.Mend x y)) h = h.ends
-counted line (Act (actions.Lose message)) h = tt
-counted line (Act (actions.Repeat message)) h = tt
-counted line (Act actions.Lapse) h = tt
-counted line (Act (actions.Tick milliseconds)) h = h.to_a_day
+counted line (Act x) h = (counted_action line x h, action_in_time line x h)
 
 pub none_is : {A : Type 0} (o : Option A) → is_none o ≡ true → o ≡ None
 none_is None h = refl
@@ -123,6 +162,7 @@ one_shard place s name policy h ok =
       named = λ none. absurd (cc);
       unnamed = λ none. absurd (cc);
       actions = subst (λ (xs : List Action). All (FitsShard (Some name)) xs) (sym empty.1) (All-nil (FitsShard (Some name)));
+      in_time = h.in_time;
       few = omega (arith, h.few);
       declared = h.declared;
       starts = h.starts;
@@ -150,6 +190,7 @@ one_tablet place s t h ok =
       named = λ none. absurd (some_not s.shard p4.0 none);
       unnamed = h.unnamed;
       actions = h.actions;
+      in_time = h.in_time;
       few = omega (arith, h.few);
       declared = subst (λ (xs : List Action). All (NamesDeclared (in_place t s.tablets)) xs) (sym none) (All-nil (NamesDeclared (in_place t s.tablets)));
       starts = h.starts;
@@ -160,11 +201,13 @@ one_tablet place s t h ok =
     }
 
 fits_one : (s : Script) (x : Action) → CountedAction x → admits_action s x ≡ true → FitsShard s.shard x
-unfolding CountedAction
-fits_one s (actions.Play (Planned name a) n) once ok = (shard_is s.shard name ok, once)
+unfolding CountedAction IsRead
+fits_one s (actions.Play (External a) n) never ok = never
+fits_one s (actions.Play (Planned name given avoid expected timeout allow_cross_cell) n) once ok = (shard_is s.shard name ok, once)
 fits_one s (actions.Play (Write to) n) range ok = range
 fits_one s (actions.Play (Show a) n) once ok = once
-fits_one s (actions.Start name (Planned shard a)) named ok = shard_is s.shard shard (and_both (is_shard s.shard shard) (admits_name s name) ok).0
+fits_one s (actions.Start name (External a)) read ok = read.1
+fits_one s (actions.Start name (Planned shard given avoid expected timeout allow_cross_cell)) named ok = shard_is s.shard shard (and_both (is_shard s.shard shard) (admits_name s name) ok).0
 fits_one s (actions.Start name (Write to)) named ok = tt
 fits_one s (actions.Start name (Show a)) named ok = tt
 fits_one s (actions.Turn name pumps) range ok = range
@@ -178,14 +221,14 @@ fits_one s (actions.Mend x y) counts ok = counts
 fits_one s (actions.Lose message) counts ok = tt
 fits_one s (actions.Repeat message) counts ok = tt
 fits_one s actions.Lapse counts ok = tt
-fits_one s (actions.Tick milliseconds) day ok = day
+fits_one s (actions.Tick ms) day ok = day
 
 -- ---- the names with the one that an action starts
 
 names_of : (x : Action) → CountedAction x → All IsName (started_by x)
 unfolding CountedAction
 names_of (actions.Play command n) h = All-nil IsName
-names_of (actions.Start name command) h = All-cons IsName name [] h (All-nil IsName)
+names_of (actions.Start name command) h = All-cons IsName name [] h.0 (All-nil IsName)
 names_of (actions.Turn name pumps) h = All-nil IsName
 names_of (actions.Finish name) h = All-nil IsName
 names_of actions.Settle h = All-nil IsName
@@ -197,7 +240,7 @@ names_of (actions.Mend x y) h = All-nil IsName
 names_of (actions.Lose message) h = All-nil IsName
 names_of (actions.Repeat message) h = All-nil IsName
 names_of actions.Lapse h = All-nil IsName
-names_of (actions.Tick milliseconds) h = All-nil IsName
+names_of (actions.Tick ms) h = All-nil IsName
 
 -- names that keep to P do so with the one that an action starts
 with_names : (P : List (List ℕ) → Type 0) (s : Script) (x : Action) → P s.names → ((name : List ℕ) → admits_name s name ≡ true → P (s.names ++ name ∷ [])) → admits_action s x ≡ true → P (s.names ++ started_by x)
@@ -214,7 +257,7 @@ with_names P s (actions.Mend x y) h more ok = subst P (sym (append-nil s.names))
 with_names P s (actions.Lose message) h more ok = subst P (sym (append-nil s.names)) h
 with_names P s (actions.Repeat message) h more ok = subst P (sym (append-nil s.names)) h
 with_names P s actions.Lapse h more ok = subst P (sym (append-nil s.names)) h
-with_names P s (actions.Tick milliseconds) h more ok = subst P (sym (append-nil s.names)) h
+with_names P s (actions.Tick ms) h more ok = subst P (sym (append-nil s.names)) h
 
 few_with : (s : Script) (name : List ℕ) → admits_name s name ≡ true → length (s.names ++ name ∷ []) ≤ 16
 few_with s name ok =
@@ -242,10 +285,10 @@ known_one s (actions.Mend x y) ok = tt
 known_one s (actions.Lose message) ok = tt
 known_one s (actions.Repeat message) ok = tt
 known_one s actions.Lapse ok = tt
-known_one s (actions.Tick milliseconds) ok = tt
+known_one s (actions.Tick ms) ok = tt
 
-one_action : (place : ℕ) (s : Script) (x : Action) → CountedAction x → SoFar place s → admits s (Act x) ≡ true → SoFar (place + 1) (with_line s (Act x))
-one_action place s x count h ok =
+one_action : (place : ℕ) (s : Script) (x : Action) → CountedAction x → IsInTime x → SoFar place s → admits s (Act x) ≡ true → SoFar (place + 1) (with_line s (Act x))
+one_action place s x count time h ok =
     let declared = and_both (is_some s.shard && admits_action s x) (all_declared s.tablets x) ok in
     let tests = and_both (is_some s.shard) (admits_action s x) declared.0 in
     record {
@@ -254,6 +297,7 @@ one_action place s x count h ok =
       named = λ none. absurd (some_not s.shard tests.0 none);
       unnamed = h.unnamed;
       actions = All-append (FitsShard s.shard) s.actions (x ∷ []) h.actions (All-cons (FitsShard s.shard) x [] (fits_one s x count tests.1) (All-nil (FitsShard s.shard)));
+      in_time = All-append IsInTime s.actions (x ∷ []) h.in_time (All-cons IsInTime x [] time (All-nil IsInTime));
       few = omega (arith, h.few, length-append s.actions (x ∷ []));
       declared = All-append (NamesDeclared s.tablets) s.actions (x ∷ []) h.declared (All-cons (NamesDeclared s.tablets) x [] (names_declared s.tablets x declared.1) (All-nil (NamesDeclared s.tablets)));
       starts = ap (λ (ns : List (List ℕ)). ns ++ started_by x) h.starts ∙ sym (started_more s.actions x);
@@ -267,7 +311,7 @@ one_line : (place : ℕ) (s : Script) (line : Line) → Counted line → SoFar p
 unfolding Counted
 one_line place s (Shard name policy) count h ok = one_shard place s name policy h ok
 one_line place s (Tablet t) count h ok = one_tablet place s t h ok
-one_line place s (Act x) count h ok = one_action place s x count h ok
+one_line place s (Act x) count h ok = one_action place s x count.0 count.1 h ok
 
 -- a line that was added may stand there
 pub admitted : (s t : Script) (line : Line) (b : Bool) → cond b (Some (with_line s line)) None ≡ Some t → (b ≡ true) × (with_line s line ≡ t)
@@ -296,7 +340,7 @@ on_more place s t l ls false (Some u) past with h got rest = rest u (one_more pl
 fits_on : (place : ℕ) (s t : Script) (ls : List (List ℕ)) → SoFar place s → place ≤ 1001 → read_on place s ls ≡ Ok t → Fits t
 fits_on place s t [] h le got =
     let same : s ≡ t = (let e : Ok s ≡ Ok t = got in cc) in
-    subst (λ (x : Script). Fits x) same (record { tablets = h.tablets; few_tablets = h.few_tablets; named = h.named; unnamed = h.unnamed; actions = h.actions; few_actions = omega (arith, h.few); declared = h.declared; starts = h.starts; are_names = h.are_names; few_names = h.few_names; names_differ = h.names_differ; known = h.known })
+    subst (λ (x : Script). Fits x) same (record { tablets = h.tablets; few_tablets = h.few_tablets; named = h.named; unnamed = h.unnamed; actions = h.actions; in_time = h.in_time; few_actions = omega (arith, h.few); declared = h.declared; starts = h.starts; are_names = h.are_names; few_names = h.few_names; names_differ = h.names_differ; known = h.known })
 fits_on place s t (l ∷ ls) h le got = on_more place s t l ls (ltb 1000 place) (with_bytes s l) refl refl h got (λ u k less more. fits_on (place + 1) u t ls k less more)
 
 opening : SoFar 1 empty_script
@@ -306,6 +350,7 @@ opening = record {
   named = λ none. (refl, refl);
   unnamed = λ none. refl;
   actions = All-nil (FitsShard None);
+  in_time = All-nil IsInTime;
   few = omega arith;
   declared = All-nil (NamesDeclared []);
   starts = refl;

@@ -13,7 +13,7 @@ use Rattle.shard_names.specs.declared.tablet.Tablet.{Tablet as TabletData}
 use Rattle.shard_names.specs.Tablets.{alias_eq, AliasesRise, ServersDiffer}
 use Rattle.shard_names.proofs.TabletLemmas.{alias_eq-Decides, both}
 use Rattle.shard_calls.specs.declared.command.Command.{Command}
-use Rattle.shard_calls.specs.declared.command.Command.TheVariants.{Planned, Write, Show}
+use Rattle.shard_calls.specs.declared.command.Command.TheVariants.{Planned, External, Write, Show}
 use Rattle.shard_script.specs.declared.line.Line.{Line}
 use Rattle.shard_script.specs.declared.line.Line.TheVariants.{Shard, Tablet, Act}
 use Rattle.shard_script.specs.declared.script.Action.{Action}
@@ -84,8 +84,9 @@ same_shard : (name : ShardName) → shard_eq name name ≡ true
 same_shard name = both (bytes_eq name.keyspace name.keyspace) (bytes_eq name.shard name.shard) ((bytes_eq-Decides name.keyspace name.keyspace).1 refl) ((bytes_eq-Decides name.shard name.shard).1 refl)
 
 command_admitted : (s : Script) (name : ShardName) (c : Command) → s.shard ≡ Some name → IsCommandOf name c → admits_command s c ≡ true
-command_admitted s name (Planned m a) named of =
+command_admitted s name (Planned m given avoid expected timeout allow_cross_cell) named of =
     ap (λ (o : Option ShardName). is_shard o m) named ∙ ap (λ (k : ShardName). shard_eq name k) of ∙ same_shard name
+command_admitted s name (External a) named of = refl
 command_admitted s name (Write to) named of = refl
 command_admitted s name (Show a) named of = refl
 
@@ -110,7 +111,7 @@ action_allowed s name (actions.Mend x y) ns named of known differ few = refl
 action_allowed s name (actions.Lose message) ns named of known differ few = refl
 action_allowed s name (actions.Repeat message) ns named of known differ few = refl
 action_allowed s name actions.Lapse ns named of known differ few = refl
-action_allowed s name (actions.Tick milliseconds) ns named of known differ few = refl
+action_allowed s name (actions.Tick ms) ns named of known differ few = refl
 
 actions_on : (place : ℕ) (s : Script) (name : ShardName) (al : List (List ℕ)) (xs : List Action) → AllZip IsActionLine al xs → s.shard ≡ Some name → All (IsOfShard name) xs → All (NamesDeclared s.tablets) xs → AreKnown s.names xs → NamesDiffer (s.names ++ started xs) → length (s.names ++ started xs) ≤ 16 → place + length al ≤ 1001 → read_on place s al ≡ Ok (record s { names = s.names ++ started xs; actions = s.actions ++ xs })
 actions_on place s name [] [] said named of declared known differ few lines =

@@ -4,15 +4,16 @@ use Rattle.std.specs.List.{Any}
 use Rattle.shard_names.specs.declared.alias.Alias.{Alias}
 use Rattle.shard_names.specs.declared.tablet.Tablet.{Tablet as TabletData}
 use Rattle.shard_calls.specs.declared.command.Command.{Command}
-use Rattle.shard_calls.specs.declared.command.Command.TheVariants.{Planned, Write, Show}
+use Rattle.shard_calls.specs.declared.command.Command.TheVariants.{Planned, External, Write, Show}
 use Rattle.shard_calls.specs.declared.event.Side.{Side}
 use Rattle.shard_calls.specs.declared.event.Side.TheVariants as sides
 use Rattle.shard_script.specs.declared.script.Action.{Action}
 use Rattle.shard_script.specs.declared.script.Action.TheVariants as actions
 
--- where a command writes, or what it shows: a reparent's tablet need not be declared
+-- where a command writes, or what it shows: a reparent's tablets need not be declared
 abbrev pub aliases_in : Command → List Alias
-aliases_in (Planned shard new_primary) = []
+aliases_in (Planned shard given avoid expected timeout allow_cross_cell) = []
+aliases_in (External a) = []
 aliases_in (Write None) = []
 aliases_in (Write (Some a)) = a ∷ []
 aliases_in (Show a) = a ∷ []
@@ -37,7 +38,7 @@ aliases_of (actions.Mend x y) = aliases_at x ++ aliases_at y
 aliases_of (actions.Lose message) = []
 aliases_of (actions.Repeat message) = []
 aliases_of actions.Lapse = []
-aliases_of (actions.Tick milliseconds) = []
+aliases_of (actions.Tick ms) = []
 
 -- some tablet has this alias
 abbrev pub IsDeclared : List TabletData → Alias → Type 0

@@ -1,13 +1,20 @@
 -- The commands of a line, by their number of words: those of vtctldclient (Vitess manual), and a client's writes.
-use Rattle.std.specs.Prelude.{ℕ, List, Option, Some, None, if◌then◌else◌, codes}
+use Rattle.std.specs.Prelude.{ℕ, List, false, Option, Some, None, if◌then◌else◌, codes}
 use Rattle.std.specs.Result.{result_ok}
 use Rattle.std.specs.Str.{bytes_eq}
 use Rattle.shard_base.specs.Options.{◌>>=◌}
 use Rattle.shard_names.specs.Alias.{alias_reading}
 use Rattle.shard_names.specs.ShardName.{shard_name_reading}
+use Rattle.shard_names.specs.declared.alias.Alias.{Alias}
+use Rattle.shard_names.specs.declared.shard_name.ShardName.{ShardName}
+use Rattle.shard_calls.specs.declared.command.Command.{Command}
 use Rattle.shard_calls.specs.declared.command.Command.TheVariants.{Planned, Write, Show}
 use Rattle.shard_script.specs.declared.command.Given.{Given}
 use Rattle.shard_script.specs.Numbers.{number_within}
+
+-- a reparent to this tablet, with no other option
+abbrev pub reparent_to : ShardName → Alias → Command
+reparent_to name new_primary = Planned name (Some new_primary) None None None false
 
 -- the words of `PlannedReparentShard K/S --new-primary ALIAS` behind the first
 unfoldable pub planned_command : List ℕ → List ℕ → List ℕ → Option Given
@@ -15,7 +22,7 @@ planned_command name option alias = if bytes_eq option (codes "--new-primary")
     then (do
       n ← shard_name_reading name
       a ← result_ok (alias_reading alias)
-      Some (record { command = Planned n a; count = 1 })) else None
+      Some (record { command = reparent_to n a; count = 1 })) else None
 
 -- `write N`
 unfoldable pub write_command : List ℕ → Option Given

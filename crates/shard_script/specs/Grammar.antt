@@ -15,7 +15,7 @@ use Rattle.shard_names.specs.Tablets.{AliasesRise, ServersDiffer}
 use Rattle.durability.specs.declared.policy.Durability.{Durability}
 use Rattle.durability.specs.Policies.{policy_name}
 use Rattle.shard_calls.specs.declared.command.Command.{Command}
-use Rattle.shard_calls.specs.declared.command.Command.TheVariants.{Planned, Write, Show}
+use Rattle.shard_calls.specs.declared.command.Command.TheVariants.{Planned, External, Write, Show}
 use Rattle.shard_calls.specs.declared.event.Side.{Side}
 use Rattle.shard_calls.specs.declared.event.Side.TheVariants as sides
 use Rattle.shard_script.specs.declared.line.Line.{Line}
@@ -25,6 +25,7 @@ use Rattle.shard_script.specs.declared.script.Action.TheVariants as actions
 use Rattle.shard_script.specs.declared.script.Script.{Script}
 use Rattle.shard_script.specs.Names.{IsName, started, NamesDiffer, AreKnown}
 use Rattle.shard_script.specs.Aliases.{NamesDeclared, are_ends}
+use Rattle.shard_script.specs.Commands.{reparent_to}
 use Rattle.shard_script.specs.Lines.{words_of, server_reading}
 use Rattle.shard_script.specs.Script.{empty_script, lines_of, ended_lines, first_bytes, reading}
 
@@ -51,7 +52,10 @@ pub record IsTabletLine (line : List ℕ) (tablet : TabletData) : Type 0 where
   pub server_is : server_reading server_text ≡ Some tablet.server
 
 -- `PlannedReparentShard K/S --new-primary ALIAS`
-pub record IsPlanned (words : List (List ℕ)) (name : ShardName) (new_primary : Alias) : Type 0 where
+pub record IsPlanned (words : List (List ℕ)) (command : Command) : Type 0 where
+  pub name : ShardName
+  pub new_primary : Alias
+  pub command_is : command ≡ reparent_to name new_primary
   pub name_text : List ℕ
   pub alias_text : List ℕ
   pub words_are : words ≡ codes "PlannedReparentShard" ∷ name_text ∷ codes "--new-primary" ∷ alias_text ∷ []
@@ -88,9 +92,10 @@ pub record IsOfTablet (head : List ℕ) (words : List (List ℕ)) (alias : Alias
   pub words_are : words ≡ head ∷ alias_text ∷ []
   pub alias_is : alias_reading alias_text ≡ Ok alias
 
--- the words of a command that is given so many times
+-- the words of a command that is given so many times; no words record a promotion by other hands
 abbrev pub IsCommand : List (List ℕ) → Command → ℕ → Type 0
-IsCommand words (Planned name a) n = IsPlanned words name a × (n ≡ 1)
+IsCommand words (Planned name given avoid expected timeout allow_cross_cell) n = IsPlanned words (Planned name given avoid expected timeout allow_cross_cell) × (n ≡ 1)
+IsCommand words (External a) n = ⊥
 IsCommand words (Write None) n = IsWrite words n
 IsCommand words (Write (Some a)) n = IsWriteTo words a n
 IsCommand words (Show a) n = IsOfTablet (codes "show") words a × (n ≡ 1)
@@ -188,7 +193,7 @@ IsActionLine line (actions.Mend x y) = IsLinkLine (codes "mend") line x y
 IsActionLine line (actions.Lose message) = IsMessageLine (codes "lose") line message
 IsActionLine line (actions.Repeat message) = IsMessageLine (codes "repeat") line message
 IsActionLine line actions.Lapse = IsLapseLine line
-IsActionLine line (actions.Tick milliseconds) = IsTickLine line milliseconds
+IsActionLine line (actions.Tick ms) = IsTickLine line ms
 
 -- what a line says
 abbrev pub Says : List ℕ → Line → Type 0
@@ -205,7 +210,8 @@ AliasesDiffer (t ∷ ts) = All (λ u. t.alias ≢ u.alias) ts × AliasesDiffer t
 
 -- a reparent is of this shard
 abbrev pub IsCommandOf : ShardName → Command → Type 0
-IsCommandOf name (Planned n a) = n ≡ name
+IsCommandOf name (Planned n given avoid expected timeout allow_cross_cell) = n ≡ name
+IsCommandOf name (External a) = ⊤
 IsCommandOf name (Write to) = ⊤
 IsCommandOf name (Show a) = ⊤
 
@@ -223,7 +229,7 @@ IsOfShard name (actions.Mend x y) = ⊤
 IsOfShard name (actions.Lose message) = ⊤
 IsOfShard name (actions.Repeat message) = ⊤
 IsOfShard name actions.Lapse = ⊤
-IsOfShard name (actions.Tick milliseconds) = ⊤
+IsOfShard name (actions.Tick ms) = ⊤
 
 -- the lines of a script: first the shard, then its tablets, then what is done to it
 pub record IsShardScript (lines : List (List ℕ)) (s : Script) : Type 0 where

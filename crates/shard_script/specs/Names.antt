@@ -51,7 +51,7 @@ started_by (Mend x y) = []
 started_by (Lose message) = []
 started_by (Repeat message) = []
 started_by Lapse = []
-started_by (Tick milliseconds) = []
+started_by (Tick ms) = []
 
 -- the names that actions start, in order
 abbrev pub started : List Action → List (List ℕ)
@@ -78,7 +78,7 @@ IsKnown names (Mend x y) = ⊤
 IsKnown names (Lose message) = ⊤
 IsKnown names (Repeat message) = ⊤
 IsKnown names Lapse = ⊤
-IsKnown names (Tick milliseconds) = ⊤
+IsKnown names (Tick ms) = ⊤
 
 -- what each action turns or finishes is among these or was started before it
 abbrev pub AreKnown : List (List ℕ) → List Action → Type 0

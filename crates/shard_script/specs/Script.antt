@@ -9,7 +9,8 @@ use Rattle.shard_names.specs.declared.shard_name.ShardName.{ShardName}
 use Rattle.shard_names.specs.declared.tablet.Tablet.{Tablet as TabletData}
 use Rattle.durability.specs.declared.policy.Durability.TheVariants as policies
 use Rattle.shard_calls.specs.declared.command.Command.{Command}
-use Rattle.shard_calls.specs.declared.command.Command.TheVariants.{Planned, Write, Show}
+use Rattle.shard_calls.specs.declared.command.Command.TheVariants.{Planned, External, Write, Show}
+use Rattle.shard_calls.specs.Begins.{is_in_time}
 use Rattle.shard_script.specs.declared.line.Line.{Line}
 use Rattle.shard_script.specs.declared.line.Line.TheVariants.{Shard, Tablet, Act}
 use Rattle.shard_script.specs.declared.script.Action.{Action}
@@ -57,7 +58,8 @@ admits_tablet s t =
 
 -- a reparent is of the declared shard
 abbrev pub admits_command : Script → Command → Bool
-admits_command s (Planned name a) = is_shard s.shard name
+admits_command s (Planned name given avoid expected timeout allow_cross_cell) = is_shard s.shard name
+admits_command s (External a) = true
 admits_command s (Write to) = true
 admits_command s (Show a) = true
 
@@ -84,7 +86,7 @@ admits_action s (actions.Mend x y) = true
 admits_action s (actions.Lose message) = true
 admits_action s (actions.Repeat message) = true
 admits_action s actions.Lapse = true
-admits_action s (actions.Tick milliseconds) = true
+admits_action s (actions.Tick ms) = true
 
 -- whether a line may stand behind the script so far
 abbrev pub admits : Script → Line → Bool
@@ -157,12 +159,14 @@ Gives (Err (faults.Line place)) r = r ≡ Err place
 Gives (Err faults.OutOfMemory) r = ⊤
 
 -- A reparent is of the declared shard. It is given once, as a show is, and a write 1 to 100 times. A turn is of 1 to 1,000,000 events, and at most a day
--- goes by. A link has two ends of which one is a tablet.
+-- goes by. A link has two ends of which one is a tablet. No promotion by other hands is to be recorded.
 abbrev pub FitsShard : Option ShardName → Action → Type 0
-FitsShard shard (actions.Play (Planned name a) n) = (shard ≡ Some name) × (n ≡ 1)
+FitsShard shard (actions.Play (Planned name given avoid expected timeout allow_cross_cell) n) = (shard ≡ Some name) × (n ≡ 1)
+FitsShard shard (actions.Play (External a) n) = ⊥
 FitsShard shard (actions.Play (Write to) n) = (1 ≤ n) × (n ≤ 100)
 FitsShard shard (actions.Play (Show a) n) = n ≡ 1
-FitsShard shard (actions.Start starter (Planned name a)) = shard ≡ Some name
+FitsShard shard (actions.Start starter (Planned name given avoid expected timeout allow_cross_cell)) = shard ≡ Some name
+FitsShard shard (actions.Start starter (External a)) = ⊥
 FitsShard shard (actions.Start starter (Write to)) = ⊤
 FitsShard shard (actions.Start starter (Show a)) = ⊤
 FitsShard shard (actions.Turn name pumps) = (1 ≤ pumps) × (pumps ≤ 1000000)
@@ -176,7 +180,24 @@ FitsShard shard (actions.Mend x y) = are_ends x y ≡ true
 FitsShard shard (actions.Lose message) = ⊤
 FitsShard shard (actions.Repeat message) = ⊤
 FitsShard shard actions.Lapse = ⊤
-FitsShard shard (actions.Tick milliseconds) = milliseconds ≤ 86400000
+FitsShard shard (actions.Tick ms) = ms ≤ 86400000
+
+-- its command waits a day for an answer at most
+abbrev pub IsInTime : Action → Type 0
+IsInTime (actions.Play command n) = is_in_time command ≡ true
+IsInTime (actions.Start starter command) = is_in_time command ≡ true
+IsInTime (actions.Turn name pumps) = ⊤
+IsInTime (actions.Finish name) = ⊤
+IsInTime actions.Settle = ⊤
+IsInTime (actions.Local a) = ⊤
+IsInTime (actions.Crash a keep) = ⊤
+IsInTime (actions.Restart a) = ⊤
+IsInTime (actions.Cut x y) = ⊤
+IsInTime (actions.Mend x y) = ⊤
+IsInTime (actions.Lose message) = ⊤
+IsInTime (actions.Repeat message) = ⊤
+IsInTime actions.Lapse = ⊤
+IsInTime (actions.Tick ms) = ⊤
 
 -- what every script that is read keeps to
 pub record Fits (s : Script) : Type 0 where
@@ -185,6 +206,7 @@ pub record Fits (s : Script) : Type 0 where
   pub named : s.shard ≡ None → (s.tablets ≡ []) × (s.actions ≡ [])
   pub unnamed : s.shard ≡ None → s.policy ≡ policies.None
   pub actions : All (FitsShard s.shard) s.actions
+  pub in_time : All IsInTime s.actions
   pub few_actions : length s.actions ≤ 1000
   -- where an action names a tablet that has to be declared, it is
   pub declared : All (NamesDeclared s.tablets) s.actions

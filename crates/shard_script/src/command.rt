@@ -33,7 +33,14 @@ fn planned_command(name: &[u8], option: &[u8], alias: &[u8]) -> Option<Given>
     let shard = ShardName::read(name)?;
     let new_primary = Alias::read(alias).ok()?;
     Some(Given {
-        command: Command::Planned { shard, new_primary },
+        command: Command::Planned {
+            shard,
+            new_primary: Some(new_primary),
+            avoid: None,
+            expected: None,
+            timeout: None,
+            allow_cross_cell: false,
+        },
         count: 1,
     })
 }

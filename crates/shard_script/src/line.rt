@@ -173,9 +173,9 @@ fn finish_line(name: &[u8]) -> Option<Line>
 fn tick_line(duration: &[u8]) -> Option<Line>
     ensures { result ≡ tick_line duration.now }
 {
-    let milliseconds = read_duration(duration)?;
+    let ms = read_duration(duration)?;
     Some(Line::Act {
-        action: Action::Tick { milliseconds },
+        action: Action::Tick { ms },
     })
 }
 

@@ -44,7 +44,7 @@ pub enum Action {
     /// The shard's lock is freed, whoever holds it.
     Lapse,
     /// So many milliseconds go by.
-    Tick { milliseconds: u64 },
+    Tick { ms: u64 },
 }
 
 /// A shard, its tablets in alias order, and what is done to it.
@@ -162,6 +162,7 @@ fn admits_command(script: &Script, command: &Command) -> bool
 {
     match command {
         Command::Planned { shard, .. } => is_shard(&script.shard, shard),
+        Command::External { .. } => true,
         Command::Write { .. } => true,
         Command::Show { .. } => true,
     }
@@ -179,6 +180,7 @@ fn command_declared(tablets: &[Tablet], command: &Command) -> bool
 {
     match command {
         Command::Planned { .. } => true,
+        Command::External { .. } => true,
         Command::Write { to } => match to {
             Some(alias) => has_alias(tablets, alias),
             None => true,

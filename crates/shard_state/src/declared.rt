@@ -39,6 +39,7 @@ pub fn names_declared(fields: &Fields, command: &Command) -> bool
 {
     match command {
         Command::Planned { .. } => true,
+        Command::External { .. } => true,
         Command::Write { to } => match to {
             Some(alias) => is_declared(&fields.managers, alias),
             None => true,

@@ -8,6 +8,7 @@ mod locks;
 mod lookups;
 mod sends;
 mod tablets;
+mod times;
 mod writes;
 
 pub use actors::{open_of, place_of};
@@ -17,4 +18,5 @@ pub use locks::{intends, is_alias_of, is_first, may_record, took_nothing};
 pub use lookups::{open_command, term_of};
 pub use sends::{has_evidence, may_send};
 pub use tablets::{find_manager, is_down, manager_of, tablet_of};
-pub use writes::{may_tick, may_write};
+pub use times::{is_in_time, may_tick, timeout_of};
+pub use writes::may_write;

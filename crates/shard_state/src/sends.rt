@@ -48,6 +48,8 @@ fn may_ask_in(fields: &Fields, alias: &Alias, call: &Call, term: u64) -> bool
         Call::Demote => true,
         Call::Promote { position } => has_evidence(fields, term, alias, position),
         Call::SetSource { source, stand, .. } => may_follow(fields, alias, source, *stand, term),
+        Call::Feed => true,
+        Call::WaitFor { until, .. } => *until < END_OF_TIME,
         Call::WaitTold { until } => *until < END_OF_TIME,
     }
 }

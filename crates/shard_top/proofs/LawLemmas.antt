@@ -13,7 +13,8 @@ use Rattle.shard_calls.specs.declared.event.Step.{Step}
 use Rattle.shard_calls.specs.declared.state.CommandState.{CommandState}
 use Rattle.shard_script.specs.declared.script.Action.{Action}
 use Rattle.shard_script.specs.declared.script.Script.{Script}
-use Rattle.vtctld_text.specs.declared.note.Note.{Note}
+use Rattle.shard_calls.specs.declared.event.Note.{Note}
+use Rattle.vtctld_text.specs.Notes.{action_text}
 use Rattle.vtctld_text.specs.declared.note.RefusedAction.{RefusedAction}
 use Rattle.planned.specs.Course.{leaves}
 use Rattle.planned.specs.Follows.{Leaves, CourseIsMet, FollowCourses}
@@ -25,35 +26,41 @@ use Rattle.shard_top.specs.declared.player.Move.{Move}
 use Rattle.shard_top.specs.declared.player.Move.TheVariants as moves
 use Rattle.shard_top.specs.declared.player.Stop.{Stop}
 use Rattle.shard_top.specs.declared.player.Stop.TheVariants as stops
-use Rattle.shard_top.specs.Played.{Want, wanted, wanting, move, Made, Stepped, Noted, steps_of, notes_from, notes_of, IsMade, Plays, world_by, player_by, player_after, first_player, stop_by, first_moment, config_of}
+use Rattle.shard_top.specs.Played.{Want, wanted, wanting, move, Made, Stepped, Noted, steps_of, notes_from, notes_of, IsMade, Plays, world_by, player_by, player_after, first_player, stop_by, first_moment, config_of, IsRunOf}
 use Rattle.shard_top.specs.Laws.{OneRun, PlayedIsRun, NotesInPlace}
 use Rattle.shard_top.proofs.FairLemmas.{Fair, FairMove, plain_fair}
-use Rattle.shard_top.proofs.LongerLemmas.{made_on, world_on, world_more}
+use Rattle.shard_top.proofs.LongerLemmas.{notes_anywhere, made_on, world_on, world_more}
 
 -- ---- one run
 
--- from this player, behind n steps, this is played and then it stops
-record EndsBy (config : Config) (wants : List Want) (lines : List Action) (w : World) (p : Player) (n : ℕ) (made : List Made) (stop : Stop) : Type 0 where
+-- from this player, behind n steps and j notes, this is played and then it stops
+record EndsBy (config : Config) (wants : List Want) (lines : List Action) (w : World) (p : Player) (n j : ℕ) (made : List Made) (stop : Stop) : Type 0 where
   whole : ℕ
   count : whole ≡ n + length (steps_of made)
   few : whole ≤ 1000000
+  noted : ℕ
+  count_noted : noted ≡ j + length (notes_of made)
+  few_noted : noted ≤ 1000000
   plays : Plays config wants lines w p made
-  stopped : stop_by whole (move config wants lines (world_after config w (steps_of made)) (player_after config wants lines w p made)) ≡ Some stop
+  stopped : stop_by whole noted (move config wants lines (world_after config w (steps_of made)) (player_after config wants lines w p made)) ≡ Some stop
 
 full_by_test : (n : ℕ) (stop : Stop) (b : Bool) → (n == 1000000) ≡ b → cond b (Some stops.Full) None ≡ Some stop → n ≡ 1000000
 full_by_test n stop true full is = grind (arith, nat_tests)
 full_by_test n stop false full is = absurd (let none : None ≡ Some stop = is in cc)
 
--- where more comes, only a full history stops, and it is a step
-stops_full : (config : Config) (w : World) (n : ℕ) (m : Move) (x : Made) (made : List Made) (P : World → Player → Type 0) (stop : Stop) → IsMade config w m x P → stop_by n m ≡ Some stop
-    → n + length (steps_of (x ∷ made)) ≤ 1000000 → ⊥
-stops_full config w n (moves.Makes e q) (Stepped s) made P stop h is few =
+-- where more comes, only a full history stops, and it is one more of what it is full of
+stops_full : (config : Config) (w : World) (n j : ℕ) (m : Move) (x : Made) (made : List Made) (P : World → Player → Type 0) (stop : Stop) → IsMade config w m x P → stop_by n j m ≡ Some stop
+    → n + length (steps_of (x ∷ made)) ≤ 1000000 → j + length (notes_of (x ∷ made)) ≤ 1000000 → ⊥
+stops_full config w n j (moves.Makes e q) (Stepped s) made P stop h is few noted =
     let full : n ≡ 1000000 = full_by_test n stop (n == 1000000) refl is in
     omega (arith, full, few)
-stops_full config w n (moves.Makes e q) (Noted r) made P stop h is few = h
-stops_full config w n (moves.Notes refused q) x made P stop h is few = let none : None ≡ Some stop = is in absurd (cc)
-stops_full config w n (moves.Blocked name) x made P stop h is few = h
-stops_full config w n moves.Over x made P stop h is few = h
+stops_full config w n j (moves.Makes e q) (Noted r) made P stop h is few noted = h
+stops_full config w n j (moves.Notes refused q) (Stepped s) made P stop h is few noted = h
+stops_full config w n j (moves.Notes refused q) (Noted r) made P stop h is few noted =
+    let full : j ≡ 1000000 = full_by_test j stop (j == 1000000) refl is in
+    omega (arith, full, noted)
+stops_full config w n j (moves.Blocked name) x made P stop h is few noted = h
+stops_full config w n j moves.Over x made P stop h is few noted = h
 
 same_made : (config : Config) (w : World) (m : Move) (x y : Made) (P Q : World → Player → Type 0) → IsMade config w m x P → IsMade config w m y Q → y ≡ x
 same_made config w (moves.Makes e q) (Stepped s) (Stepped t) P Q h k = λ i. Stepped ((k.0 ∙ sym h.0) i)
@@ -69,44 +76,70 @@ count_on : (x : Made) (made : List Made) → length (steps_of (x ∷ made)) ≡ 
 count_on (Stepped s) made = omega arith
 count_on (Noted r) made = omega arith
 
-ends_on : (config : Config) (wants : List Want) (lines : List Action) (w : World) (p : Player) (n : ℕ) (x : Made) (made : List Made) (stop : Stop) (m : Move)
-    → move config wants lines w p ≡ m → EndsBy config wants lines w p n (x ∷ made) stop
-    → EndsBy config wants lines (world_by config w m) (player_by p m) (n + length (steps_of (x ∷ []))) made stop
-ends_on config wants lines w p n x made stop m is h =
+noted_on : (x : Made) (made : List Made) → length (notes_of (x ∷ made)) ≡ length (notes_of (x ∷ [])) + length (notes_of made)
+noted_on (Stepped s) made = omega (arith, notes_anywhere made (0 + 1) 0)
+noted_on (Noted r) made = omega arith
+
+ends_on : (config : Config) (wants : List Want) (lines : List Action) (w : World) (p : Player) (n j : ℕ) (x : Made) (made : List Made) (stop : Stop) (m : Move)
+    → move config wants lines w p ≡ m → EndsBy config wants lines w p n j (x ∷ made) stop
+    → EndsBy config wants lines (world_by config w m) (player_by p m) (n + length (steps_of (x ∷ []))) (j + length (notes_of (x ∷ []))) made stop
+ends_on config wants lines w p n j x made stop m is h =
     let there : Move = move config wants lines w p in
     let q : Player = player_after config wants lines (world_by config w there) (player_by p there) made in
-    subst (λ (v : Move). EndsBy config wants lines (world_by config w v) (player_by p v) (n + length (steps_of (x ∷ []))) made stop) is (record {
+    subst (λ (v : Move). EndsBy config wants lines (world_by config w v) (player_by p v) (n + length (steps_of (x ∷ []))) (j + length (notes_of (x ∷ []))) made stop) is (record {
       whole = h.whole;
       count = omega (arith, h.count, count_on x made);
       few = h.few;
+      noted = h.noted;
+      count_noted = omega (arith, h.count_noted, noted_on x made);
+      few_noted = h.few_noted;
       plays = made_on config w p there x (λ v q. Plays config wants lines v q made) h.plays;
       stopped =
-          subst (λ (v : World). stop_by h.whole (move config wants lines v q) ≡ Some stop) (world_on config w there x made (λ v q. Plays config wants lines v q made) h.plays) h.stopped;
+          subst (λ (v : World). stop_by h.whole h.noted (move config wants lines v q) ≡ Some stop) (world_on config w there x made (λ v q. Plays config wants lines v q made) h.plays) h.stopped;
     })
 
-ends_once : (config : Config) (wants : List Want) (lines : List Action) (w : World) (p : Player) (n : ℕ) (xs ys : List Made) (a b : Stop) → EndsBy config wants lines w p n xs a
-    → EndsBy config wants lines w p n ys b → (xs ≡ ys) × (a ≡ b)
-ends_once config wants lines w p n [] [] a b h k =
+ends_once : (config : Config) (wants : List Want) (lines : List Action) (w : World) (p : Player) (n j : ℕ) (xs ys : List Made) (a b : Stop) → EndsBy config wants lines w p n j xs a
+    → EndsBy config wants lines w p n j ys b → (xs ≡ ys) × (a ≡ b)
+ends_once config wants lines w p n j [] [] a b h k =
     let same : h.whole ≡ k.whole = h.count ∙ sym k.count in
-    let one : Some a ≡ Some b = sym h.stopped ∙ subst (λ (i : ℕ). stop_by i (move config wants lines w p) ≡ Some b) (sym same) k.stopped in
+    let noted : h.noted ≡ k.noted = h.count_noted ∙ sym k.count_noted in
+    let one : Some a ≡ Some b =
+    sym h.stopped
+    ∙ subst (λ (i : ℕ). stop_by i h.noted (move config wants lines w p) ≡ Some b) (sym same) (subst (λ (i : ℕ). stop_by k.whole i (move config wants lines w p) ≡ Some b) (sym noted) k.stopped) in
     (refl, let stop : a ≡ b = cc in stop)
-ends_once config wants lines w p n [] (y ∷ ys) a b h k =
-    absurd (stops_full config w h.whole (move config wants lines w p) y ys (λ v q. Plays config wants lines v q ys) a k.plays h.stopped (omega (arith, h.count, k.count, k.few)))
-ends_once config wants lines w p n (x ∷ xs) [] a b h k =
-    absurd (stops_full config w k.whole (move config wants lines w p) x xs (λ v q. Plays config wants lines v q xs) b h.plays k.stopped (omega (arith, k.count, h.count, h.few)))
-ends_once config wants lines w p n (x ∷ xs) (y ∷ ys) a b h k =
+ends_once config wants lines w p n j [] (y ∷ ys) a b h k =
+    absurd (stops_full config w h.whole h.noted (move config wants lines w p) y ys (λ v q. Plays config wants lines v q ys) a k.plays h.stopped (omega (arith, h.count, k.count, k.few))
+    (omega (arith, h.count_noted, k.count_noted, k.few_noted)))
+ends_once config wants lines w p n j (x ∷ xs) [] a b h k =
+    absurd (stops_full config w k.whole k.noted (move config wants lines w p) x xs (λ v q. Plays config wants lines v q xs) b h.plays k.stopped (omega (arith, k.count, h.count, h.few))
+    (omega (arith, k.count_noted, h.count_noted, h.few_noted)))
+ends_once config wants lines w p n j (x ∷ xs) (y ∷ ys) a b h k =
     let m : Move = move config wants lines w p in
     let same : y ≡ x = same_made config w m x y (λ v q. Plays config wants lines v q xs) (λ v q. Plays config wants lines v q ys) h.plays k.plays in
-    let other : EndsBy config wants lines (world_by config w m) (player_by p m) (n + length (steps_of (x ∷ []))) ys b =
-    subst (λ (z : Made). EndsBy config wants lines (world_by config w m) (player_by p m) (n + length (steps_of (z ∷ []))) ys b) same (ends_on config wants lines w p n y ys b m refl k) in
-    let r = ends_once config wants lines (world_by config w m) (player_by p m) (n + length (steps_of (x ∷ []))) xs ys a b (ends_on config wants lines w p n x xs a m refl h) other in
+    let other : EndsBy config wants lines (world_by config w m) (player_by p m) (n + length (steps_of (x ∷ []))) (j + length (notes_of (x ∷ []))) ys b =
+    subst (λ (z : Made). EndsBy config wants lines (world_by config w m) (player_by p m) (n + length (steps_of (z ∷ []))) (j + length (notes_of (z ∷ []))) ys b) same
+    (ends_on config wants lines w p n j y ys b m refl k) in
+    let r =
+    ends_once config wants lines (world_by config w m) (player_by p m) (n + length (steps_of (x ∷ []))) (j + length (notes_of (x ∷ []))) xs ys a b
+    (ends_on config wants lines w p n j x xs a m refl h) other in
     ((λ i. sym same i ∷ r.0 i), r.1)
+
+ends_by : (s : Script) (wants : List Want) (made : List Made) (stop : Stop) → IsRunOf s wants made stop
+    → EndsBy (config_of s) wants s.actions (opening (config_of s)) first_player 0 0 made stop
+ends_by s wants made stop h = record {
+  whole = length (steps_of made);
+  count = omega arith;
+  few = h.few;
+  noted = length (notes_of made);
+  count_noted = omega arith;
+  few_noted = h.few_notes;
+  plays = h.played;
+  stopped = h.stopped;
+}
 
 pub one_run : OneRun
 one_run s wants made others stop other h k =
-    ends_once (config_of s) wants s.actions (opening (config_of s)) first_player 0 made others stop other
-    (record { whole = length (steps_of made); count = omega arith; few = h.few; plays = h.played; stopped = h.stopped })
-    (record { whole = length (steps_of others); count = omega arith; few = k.few; plays = k.played; stopped = k.stopped })
+    ends_once (config_of s) wants s.actions (opening (config_of s)) first_player 0 0 made others stop other (ends_by s wants made stop h) (ends_by s wants others other k)
 
 -- ---- a run of the machine
 
@@ -114,7 +147,7 @@ found_by : {A : Type 0} (p : A → Bool) (y : A) (ys : List A) (x : A) (b : Bool
 found_by p y ys x true is h later = subst (λ v. p v ≡ true) (let same : y ≡ x = cc in same) is
 found_by p y ys x false is h later = later h
 
-found : {A : Type 0} (p : A → Bool) (xs : List A) (x : A) → find p xs ≡ Some x → p x ≡ true
+pub found : {A : Type 0} (p : A → Bool) (xs : List A) (x : A) → find p xs ≡ Some x → p x ≡ true
 found p [] x h = absurd (let none : None ≡ Some x = h in cc)
 found p (y ∷ ys) x h = found_by p y ys x (p y) refl h (λ k. found p ys x k)
 
@@ -199,7 +232,7 @@ stand_from n [] = All-nil (Stand n 0)
 stand_from n (Stepped s ∷ made) =
     all_with (Stand (n + 1) (length (steps_of made))) (Stand n (length (s ∷ steps_of made))) (notes_from (n + 1) made) (λ x h. (omega (arith, h.0), omega (arith, h.1))) (stand_from (n + 1) made)
 stand_from n (Noted r ∷ made) =
-    All-cons (Stand n (length (steps_of made))) (record { place = n; action = r }) (notes_from n made) (omega arith, omega arith) (stand_from n made)
+    All-cons (Stand n (length (steps_of made))) (record { place = n; line = action_text r }) (notes_from n made) (omega arith, omega arith) (stand_from n made)
 
 never_fall_with : (x : Note) (notes : List Note) → All (λ y. x.place ≤ y.place) notes → IsNonDecreasingBy (λ y. y.place) notes → IsNonDecreasingBy (λ y. y.place) (x ∷ notes)
 never_fall_with x notes low h zero zero d le lt = omega arith
@@ -214,7 +247,7 @@ never_fall_from : (n : ℕ) (made : List Made) → IsNonDecreasingBy (λ x. x.pl
 never_fall_from n [] = never_fall_none
 never_fall_from n (Stepped s ∷ made) = never_fall_from (n + 1) made
 never_fall_from n (Noted r ∷ made) =
-    never_fall_with (record { place = n; action = r }) (notes_from n made)
+    never_fall_with (record { place = n; line = action_text r }) (notes_from n made)
     (all_with (Stand n (length (steps_of made))) (λ y. n ≤ y.place) (notes_from n made) (λ y h. h.0) (stand_from n made)) (never_fall_from n made)
 
 pub notes_in_place : NotesInPlace

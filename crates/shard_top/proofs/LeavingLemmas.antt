@@ -10,9 +10,9 @@ use Rattle.shard_calls.specs.Causes.{has_command_cause}
 use Rattle.shard_calls.specs.Table.{Met}
 use Rattle.shard_calls.specs.declared.command.Command.{Command}
 use Rattle.shard_calls.specs.declared.command.Command.TheVariants as commands
-use Rattle.shard_calls.specs.declared.command.CommandAnswer.{CommandAnswer}
-use Rattle.shard_calls.specs.declared.command.CommandAnswer.TheVariants as answers
-use Rattle.shard_calls.specs.declared.command.Refusal.TheVariants as refusals
+use Rattle.shard_calls.specs.declared.ending.CommandAnswer.{CommandAnswer}
+use Rattle.shard_calls.specs.declared.ending.CommandAnswer.TheVariants as answers
+use Rattle.shard_calls.specs.declared.refusal.Refusal.TheVariants as refusals
 use Rattle.shard_calls.specs.declared.event.Event.{Event}
 use Rattle.shard_calls.specs.declared.event.Event.TheVariants as events
 use Rattle.shard_calls.specs.declared.state.CommandState.{CommandState}
@@ -49,15 +49,16 @@ some_of None h = absurd (false≢true h)
 some_of (Some x) h = (x, refl)
 
 -- memory may run out for any command
-free_cause : (config : Config) (w : World) (s : CommandState) (command : Command) → has_command_cause config w s command (answers.Refused refusals.OutOfMemory) ≡ true
-free_cause config w s (commands.Planned shard a) = refl
+free_cause : (config : Config) (w : World) (s : CommandState) (command : Command) → has_command_cause config w s command (answers.Refused refusals.OutOfMemory None) ≡ true
+free_cause config w s (commands.Planned shard given avoid expected timeout allow_cross_cell) = refl
+free_cause config w s (commands.External a) = refl
 free_cause config w s (commands.Write to) = refl
 free_cause config w s (commands.Show a) = refl
 
 leaves_met : (config : Config) (w : World) (c : ℕ) (s : CommandState) → open_command w c ≡ Some s → Met config w (leaves w c)
 leaves_met config w c s found =
     subst (λ (o : Option CommandState). Met config w (leaves_by c o)) (sym found)
-    (leaving_met config w c s (answers.Refused refusals.OutOfMemory) found (free_cause config w s s.command)).0
+    (leaving_met config w c s (answers.Refused refusals.OutOfMemory None) found (free_cause config w s s.command)).0
 
 pub leave_fair : (config : Config) (w : World) (c : ℕ) → is_some (open_command w c) ≡ true → Fair config w (leaves w c)
 leave_fair config w c opened =
@@ -104,7 +105,7 @@ room_by w c s x false owes is = refl
 
 room_of : (w : World) (c : ℕ) (o : Option CommandState) → open_command w c ≡ o → is_some o ≡ true → has_room_kept w (leaves_by c o) ≡ true
 room_of w c None is opened = absurd (false≢true opened)
-room_of w c (Some s) is opened = room_by w c s (answers.Refused refusals.OutOfMemory) (owes_release s) refl is
+room_of w c (Some s) is opened = room_by w c s (answers.Refused refusals.OutOfMemory None) (owes_release s) refl is
 
 pub leaves_kept : (w : World) (c : ℕ) → is_some (open_command w c) ≡ true → has_room_kept w (leaves w c) ≡ true
 leaves_kept w c opened = room_of w c (open_command w c) refl opened

@@ -8,3 +8,4 @@ pub mod TurnLemmas
 pub mod RestLemmas
 pub mod TopLemmas
 pub mod LawLemmas
+pub mod WantLemmas

@@ -8,7 +8,8 @@ use Rattle.shard_calls.specs.Table.{step_of, after, world_after}
 use Rattle.shard_calls.specs.declared.event.Event.{Event}
 use Rattle.shard_calls.specs.declared.event.Step.{Step}
 use Rattle.shard_script.specs.declared.script.Action.{Action}
-use Rattle.vtctld_text.specs.declared.note.Note.{Note}
+use Rattle.shard_calls.specs.declared.event.Note.{Note}
+use Rattle.vtctld_text.specs.Notes.{action_text}
 use Rattle.vtctld_text.specs.declared.note.RefusedAction.{RefusedAction}
 use Rattle.shard_top.specs.declared.player.Player.{Player}
 use Rattle.shard_top.specs.declared.player.Go.{Go}
@@ -40,7 +41,7 @@ notes_append n [] ys = let same : n ≡ n + 0 = omega arith in ap (λ (m : ℕ).
 notes_append n (Stepped s ∷ xs) ys =
     let same : n + 1 + length (steps_of xs) ≡ n + length (s ∷ steps_of xs) = omega arith in
     notes_append (n + 1) xs ys ∙ ap (λ (m : ℕ). notes_from (n + 1) xs ++ notes_from m ys) same
-notes_append n (Noted r ∷ xs) ys = ap (λ (ns : List Note). record { place = n; action = r } ∷ ns) (notes_append n xs ys)
+notes_append n (Noted r ∷ xs) ys = ap (λ (ns : List Note). record { place = n; line = action_text r } ∷ ns) (notes_append n xs ys)
 
 -- a step is one step more, and no note
 pub steps_stepped : (made : List Made) (s : Step) → steps_of (made ++ Stepped s ∷ []) ≡ steps_of made ++ s ∷ []
@@ -57,10 +58,10 @@ notes_stepped made s = notes_append 0 made (Stepped s ∷ []) ∙ append_none (n
 pub steps_noted : (made : List Made) (r : RefusedAction) → steps_of (made ++ Noted r ∷ []) ≡ steps_of made
 steps_noted made r = steps_append made (Noted r ∷ []) ∙ append_none (steps_of made)
 
-pub notes_noted : (made : List Made) (r : RefusedAction) → notes_of (made ++ Noted r ∷ []) ≡ notes_of made ++ record { place = length (steps_of made); action = r } ∷ []
+pub notes_noted : (made : List Made) (r : RefusedAction) → notes_of (made ++ Noted r ∷ []) ≡ notes_of made ++ record { place = length (steps_of made); line = action_text r } ∷ []
 notes_noted made r =
     let same : 0 + length (steps_of made) ≡ length (steps_of made) = omega arith in
-    notes_append 0 made (Noted r ∷ []) ∙ ap (λ (m : ℕ). notes_of made ++ record { place = m; action = r } ∷ []) same
+    notes_append 0 made (Noted r ∷ []) ∙ ap (λ (m : ℕ). notes_of made ++ record { place = m; line = action_text r } ∷ []) same
 
 made_from : (n : ℕ) (made : List Made) → length made ≡ length (steps_of made) + length (notes_from n made)
 made_from n [] = omega arith
@@ -82,7 +83,7 @@ made_on config w p (moves.Notes refused q) (Noted r) P h = h.1
 made_on config w p (moves.Blocked name) x P h = absurd h
 made_on config w p moves.Over x P h = absurd h
 
-made_with : (config : Config) (w : World) (p : Player) (m : Move) (x : Made) (P Q : World → Player → Type 0)
+pub made_with : (config : Config) (w : World) (p : Player) (m : Move) (x : Made) (P Q : World → Player → Type 0)
     → (P (world_by config w m) (player_by p m) → Q (world_by config w m) (player_by p m)) → IsMade config w m x P → IsMade config w m x Q
 made_with config w p (moves.Makes e q) (Stepped s) P Q f h = (h.0, f h.1)
 made_with config w p (moves.Makes e q) (Noted r) P Q f h = h
@@ -228,7 +229,7 @@ notes_apart : (n k : ℕ) (x : Made) (made : List Made) → ((i j : ℕ) → len
 notes_apart n k (Stepped s) made same = omega (arith, same (n + 1) k)
 notes_apart n k (Noted r) made same = omega (arith, same n k)
 
-notes_anywhere : (made : List Made) (i j : ℕ) → length (notes_from i made) ≡ length (notes_from j made)
+pub notes_anywhere : (made : List Made) (i j : ℕ) → length (notes_from i made) ≡ length (notes_from j made)
 notes_anywhere made i j = omega (arith, made_from i made, made_from j made)
 
 noted_from : (config : Config) (wants : List Want) (lines : List Action) (w : World) (p : Player) (n : ℕ) (made : List Made) → Plays config wants lines w p made

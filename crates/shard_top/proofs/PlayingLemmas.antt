@@ -10,7 +10,8 @@ use Rattle.shard_calls.specs.declared.event.Event.{Event}
 use Rattle.shard_calls.specs.declared.event.Step.{Step}
 use Rattle.shard_calls.specs.declared.state.CommandState.{CommandState}
 use Rattle.shard_script.specs.declared.script.Action.{Action}
-use Rattle.vtctld_text.specs.declared.note.Note.{Note}
+use Rattle.shard_calls.specs.declared.event.Note.{Note}
+use Rattle.vtctld_text.specs.Notes.{action_text}
 use Rattle.vtctld_text.specs.declared.note.RefusedAction.{RefusedAction}
 use Rattle.shard_top.specs.declared.player.Player.{Player}
 use Rattle.shard_top.specs.declared.player.Move.{Move}
@@ -18,7 +19,7 @@ use Rattle.shard_top.specs.declared.player.Move.TheVariants as moves
 use Rattle.shard_top.specs.declared.player.Stop.{Stop}
 use Rattle.shard_top.specs.declared.player.Stop.TheVariants as stops
 use Rattle.shard_top.specs.Played.{Want, wanted, wanting, move, Stepped, Noted, steps_of, IsMade, player_by, player_after, first_player, stop_by, IsOfNone}
-use Rattle.shard_top.specs.Playing.{is_ended, HaveEnded, HasBegun, last_of, still_open, Playing, IsStopped, IsCut}
+use Rattle.shard_top.specs.Playing.{with_note, is_ended, HaveEnded, HasBegun, last_of, still_open, Playing, IsStopped, IsCut}
 use Rattle.shard_top.proofs.LongerLemmas.{past_is, steps_stepped, notes_stepped, steps_noted, notes_noted, made_is, plays_more, player_more, world_more, Onward, onward, plays_wanting, player_wanting}
 use Rattle.shard_top.proofs.EndedLemmas.{ended_after, begun_after}
 use Rattle.shard_top.proofs.LeavingLemmas.{by_leaving}
@@ -26,14 +27,10 @@ use Rattle.shard_top.proofs.LeavingLemmas.{by_leaving}
 -- ---- a history with one more step
 
 abbrev pub with_step : Kept → Event → Kept
-with_step k e = record { config = k.config; steps = k.steps ++ step_of k.config (world_of k) e ∷ [] }
+with_step k e = record { config = k.config; steps = k.steps ++ step_of k.config (world_of k) e ∷ []; notes = k.notes }
 
 pub kept_is : (old new : Kept) (e : Event) → Makes old new e → new ≡ with_step old e
-kept_is old new e m = λ i. record { config = m.config i; steps = m.steps i }
-
--- the notes with one more, which stands behind the steps
-abbrev pub with_note : Kept → List Note → RefusedAction → List Note
-with_note k notes refused = notes ++ record { place = length k.steps; action = refused } ∷ []
+kept_is old new e m = λ i. record { config = m.config i; steps = m.steps i; notes = m.notes i }
 
 -- ---- the move that comes with the wants so far
 
@@ -74,42 +71,42 @@ past_of : (k : Kept) → length (world_of k).past ≡ length k.steps
 past_of k = omega (arith, past_is k.config (opening k.config) k.steps)
 
 -- the wants of a player who stands so
-abbrev pub wants_of : (lines : List Action) (k : Kept) (notes : List Note) (p : Player) (leaving : Option ℕ) → Playing lines k notes p leaving → List Want
-wants_of lines k notes p leaving h = h.past_wants ++ last_of leaving h.at h.noted
+abbrev pub wants_of : (lines : List Action) (k : Kept) (p : Player) (leaving : Option ℕ) → Playing lines k p leaving → List Want
+wants_of lines k p leaving h = h.past_wants ++ last_of leaving h.at h.noted
 
 -- the player behind what is made
-abbrev pub player_at : (lines : List Action) (k : Kept) (notes : List Note) (p : Player) (leaving : Option ℕ) → Playing lines k notes p leaving → Player
-player_at lines k notes p leaving h = player_after k.config (wants_of lines k notes p leaving h) lines (opening k.config) first_player h.made
+abbrev pub player_at : (lines : List Action) (k : Kept) (p : Player) (leaving : Option ℕ) → Playing lines k p leaving → Player
+player_at lines k p leaving h = player_after k.config (wants_of lines k p leaving h) lines (opening k.config) first_player h.made
 
 -- the move of a player who stands so
-now_move : (lines : List Action) (k : Kept) (notes : List Note) (p : Player) (leaving : Option ℕ) (h : Playing lines k notes p leaving)
-    → move k.config (wants_of lines k notes p leaving h) lines (world_of k) p ≡ by_leaving k.config (world_of k) lines p (still_open (world_of k) leaving)
-now_move lines k notes p leaving h =
+now_move : (lines : List Action) (k : Kept) (p : Player) (leaving : Option ℕ) (h : Playing lines k p leaving)
+    → move k.config (wants_of lines k p leaving h) lines (world_of k) p ≡ by_leaving k.config (world_of k) lines p (still_open (world_of k) leaving)
+now_move lines k p leaving h =
     move_is k.config (world_of k) lines p h.past_wants h.at h.noted leaving h.ended (omega (arith, h.come, past_of k)) (omega (arith, h.come_noted, h.counted))
 
-pub playing_move : (lines : List Action) (k : Kept) (notes : List Note) (p : Player) (leaving : Option ℕ) (h : Playing lines k notes p leaving)
-    → move k.config (wants_of lines k notes p leaving h) lines (world_of k) (player_at lines k notes p leaving h)
+pub playing_move : (lines : List Action) (k : Kept) (p : Player) (leaving : Option ℕ) (h : Playing lines k p leaving)
+    → move k.config (wants_of lines k p leaving h) lines (world_of k) (player_at lines k p leaving h)
     ≡ by_leaving k.config (world_of k) lines p (still_open (world_of k) leaving)
-playing_move lines k notes p leaving h =
-    ap (λ (q : Player). move k.config (wants_of lines k notes p leaving h) lines (world_of k) q) h.player ∙ now_move lines k notes p leaving h
+playing_move lines k p leaving h =
+    ap (λ (q : Player). move k.config (wants_of lines k p leaving h) lines (world_of k) q) h.player ∙ now_move lines k p leaving h
 
 -- the same in the world behind what is made
-made_move : (lines : List Action) (k : Kept) (notes : List Note) (p : Player) (leaving : Option ℕ) (h : Playing lines k notes p leaving)
-    → move k.config (wants_of lines k notes p leaving h) lines (world_after k.config (opening k.config) (steps_of h.made)) (player_at lines k notes p leaving h)
+made_move : (lines : List Action) (k : Kept) (p : Player) (leaving : Option ℕ) (h : Playing lines k p leaving)
+    → move k.config (wants_of lines k p leaving h) lines (world_after k.config (opening k.config) (steps_of h.made)) (player_at lines k p leaving h)
     ≡ by_leaving k.config (world_of k) lines p (still_open (world_of k) leaving)
-made_move lines k notes p leaving h =
-    ap (λ (ss : List Step). move k.config (wants_of lines k notes p leaving h) lines (world_after k.config (opening k.config) ss) (player_at lines k notes p leaving h)) h.of_steps
-    ∙ playing_move lines k notes p leaving h
+made_move lines k p leaving h =
+    ap (λ (ss : List Step). move k.config (wants_of lines k p leaving h) lines (world_after k.config (opening k.config) ss) (player_at lines k p leaving h)) h.of_steps
+    ∙ playing_move lines k p leaving h
 
 -- where it leaves the player
-onward_by : (lines : List Action) (k : Kept) (notes : List Note) (p : Player) (leaving : Option ℕ) (m : Move) → Playing lines k notes p leaving
+onward_by : (lines : List Action) (k : Kept) (p : Player) (leaving : Option ℕ) (m : Move) → Playing lines k p leaving
     → by_leaving k.config (world_of k) lines p (still_open (world_of k) leaving) ≡ m → Onward lines p m
-onward_by lines k notes p leaving m h is =
-    subst (λ (v : Move). Onward lines p v) (now_move lines k notes p leaving h ∙ is) (onward k.config (wants_of lines k notes p leaving h) lines (world_of k) p)
+onward_by lines k p leaving m h is =
+    subst (λ (v : Move). Onward lines p v) (now_move lines k p leaving h ∙ is) (onward k.config (wants_of lines k p leaving h) lines (world_of k) p)
 
 -- ---- it starts
 
-starts_empty : (lines : List Action) (config : Config) → Playing lines (record { config = config; steps = [] }) [] first_player None
+starts_empty : (lines : List Action) (config : Config) → Playing lines (record { config = config; steps = []; notes = [] }) first_player None
 starts_empty lines config = record {
   made = [];
   past_wants = [];
@@ -127,13 +124,13 @@ starts_empty lines config = record {
   come = omega arith;
   come_noted = omega arith;
   few = omega arith;
+  few_notes = omega arith;
 }
 
-pub playing_starts : (lines : List Action) (k : Kept) (notes : List Note) (p : Player) → k.steps ≡ [] → notes ≡ [] → p ≡ first_player → Playing lines k notes p None
-playing_starts lines k notes p none unnoted is =
-    subst (λ (q : Player). Playing lines k notes q None) (sym is)
-    (subst (λ (ns : List Note). Playing lines k ns first_player None) (sym unnoted)
-    (subst (λ (v : Kept). Playing lines v [] first_player None) (λ i. record { config = k.config; steps = sym none i }) (starts_empty lines k.config)))
+pub playing_starts : (lines : List Action) (k : Kept) (p : Player) → k.steps ≡ [] → k.notes ≡ [] → p ≡ first_player → Playing lines k p None
+playing_starts lines k p none unnoted is =
+    subst (λ (q : Player). Playing lines k q None) (sym is)
+    (subst (λ (v : Kept). Playing lines v first_player None) (λ i. record { config = k.config; steps = sym none i; notes = sym unnoted i }) (starts_empty lines k.config))
 
 -- ---- one event
 
@@ -143,15 +140,15 @@ world_with k e = world_more k.config (opening k.config) k.steps (step_of k.confi
 pub length_with : (k : Kept) (e : Event) → length (with_step k e).steps ≡ length k.steps + 1
 length_with k e = omega (arith, length-append k.steps (step_of k.config (world_of k) e ∷ []))
 
-pub playing_goes_on : (lines : List Action) (k : Kept) (notes : List Note) (p : Player) (leaving : Option ℕ) (e : Event) (q : Player) → Playing lines k notes p leaving
-    → by_leaving k.config (world_of k) lines p (still_open (world_of k) leaving) ≡ moves.Makes e q → length k.steps < 1000000 → Playing lines (with_step k e) notes q leaving
-playing_goes_on lines k notes p leaving e q h is room =
-    let wants : List Want = wants_of lines k notes p leaving h in
+pub playing_goes_on : (lines : List Action) (k : Kept) (p : Player) (leaving : Option ℕ) (e : Event) (q : Player) → Playing lines k p leaving
+    → by_leaving k.config (world_of k) lines p (still_open (world_of k) leaving) ≡ moves.Makes e q → length k.steps < 1000000 → Playing lines (with_step k e) q leaving
+playing_goes_on lines k p leaving e q h is room =
+    let wants : List Want = wants_of lines k p leaving h in
     let s : Step = step_of k.config (world_of k) e in
-    let at_end : Player = player_at lines k notes p leaving h in
-    let made : move k.config wants lines (world_after k.config (opening k.config) (steps_of h.made)) at_end ≡ moves.Makes e q = made_move lines k notes p leaving h ∙ is in
+    let at_end : Player = player_at lines k p leaving h in
+    let made : move k.config wants lines (world_after k.config (opening k.config) (steps_of h.made)) at_end ≡ moves.Makes e q = made_move lines k p leaving h ∙ is in
     let next : after k.config (world_of k) e ≡ world_of (with_step k e) = sym (world_with k e) in
-    let on : Onward lines p (moves.Makes e q) = onward_by lines k notes p leaving (moves.Makes e q) h is in
+    let on : Onward lines p (moves.Makes e q) = onward_by lines k p leaving (moves.Makes e q) h is in
     record {
       made = h.made ++ Stepped s ∷ [];
       past_wants = h.past_wants;
@@ -172,20 +169,21 @@ playing_goes_on lines k notes p leaving e q h is room =
       come = omega (arith, h.come, length_with k e);
       come_noted = h.come_noted;
       few = omega (arith, room, length_with k e);
+      few_notes = h.few_notes;
     }
 
-pub noted_with : (k : Kept) (notes : List Note) (r : RefusedAction) → length (with_note k notes r) ≡ length notes + 1
-noted_with k notes r = omega (arith, length-append notes (record { place = length k.steps; action = r } ∷ []))
+pub noted_with : (k : Kept) (r : RefusedAction) → length (with_note k r).notes ≡ length k.notes + 1
+noted_with k r = omega (arith, length-append k.notes (record { place = length k.steps; line = action_text r } ∷ []))
 
 -- ---- one note
 
-pub playing_notes : (lines : List Action) (k : Kept) (notes : List Note) (p : Player) (leaving : Option ℕ) (r : RefusedAction) (q : Player) → Playing lines k notes p leaving
-    → by_leaving k.config (world_of k) lines p (still_open (world_of k) leaving) ≡ moves.Notes r q → Playing lines k (with_note k notes r) q leaving
-playing_notes lines k notes p leaving r q h is =
-    let wants : List Want = wants_of lines k notes p leaving h in
-    let at_end : Player = player_at lines k notes p leaving h in
-    let made : move k.config wants lines (world_after k.config (opening k.config) (steps_of h.made)) at_end ≡ moves.Notes r q = made_move lines k notes p leaving h ∙ is in
-    let on : Onward lines p (moves.Notes r q) = onward_by lines k notes p leaving (moves.Notes r q) h is in
+pub playing_notes : (lines : List Action) (k : Kept) (p : Player) (leaving : Option ℕ) (r : RefusedAction) (q : Player) → Playing lines k p leaving
+    → by_leaving k.config (world_of k) lines p (still_open (world_of k) leaving) ≡ moves.Notes r q → length k.notes < 1000000 → Playing lines (with_note k r) q leaving
+playing_notes lines k p leaving r q h is room =
+    let wants : List Want = wants_of lines k p leaving h in
+    let at_end : Player = player_at lines k p leaving h in
+    let made : move k.config wants lines (world_after k.config (opening k.config) (steps_of h.made)) at_end ≡ moves.Notes r q = made_move lines k p leaving h ∙ is in
+    let on : Onward lines p (moves.Notes r q) = onward_by lines k p leaving (moves.Notes r q) h is in
     record {
       made = h.made ++ Noted r ∷ [];
       past_wants = h.past_wants;
@@ -196,15 +194,16 @@ playing_notes lines k notes p leaving r q h is =
           (subst (λ (m : Move). IsMade k.config (world_after k.config (opening k.config) (steps_of h.made)) m (Noted r) (λ v x. ⊤)) (sym made) (refl, tt));
       player = player_more k.config wants lines (opening k.config) first_player h.made (Noted r) h.played ∙ ap (λ (m : Move). player_by at_end m) made;
       of_steps = steps_noted h.made r ∙ h.of_steps;
-      of_notes = notes_noted h.made r ∙ (λ i. h.of_notes i ++ record { place = length (h.of_steps i); action = r } ∷ []);
-      counted = omega (arith, on.0, h.counted, noted_with k notes r);
+      of_notes = notes_noted h.made r ∙ (λ i. h.of_notes i ++ record { place = length (h.of_steps i); line = action_text r } ∷ []);
+      counted = omega (arith, on.0, h.counted, noted_with k r);
       each_line_once = omega (arith, on.0, on.1, h.each_line_once);
       within = on.2 h.within;
       ended = h.ended;
       begun = h.begun;
       come = h.come;
-      come_noted = omega (arith, h.come_noted, noted_with k notes r);
+      come_noted = omega (arith, h.come_noted, noted_with k r);
       few = h.few;
+      few_notes = omega (arith, room, noted_with k r);
     }
 
 -- ---- a command runs out of memory
@@ -229,18 +228,18 @@ begun_if_open : (o : Option CommandState) → is_some (if_open o) ≡ true → i
 begun_if_open None h = h
 begun_if_open (Some x) h = refl
 
-pub playing_wants : (lines : List Action) (k : Kept) (notes : List Note) (p : Player) (leaving : Option ℕ) (c : ℕ) → Playing lines k notes p leaving → still_open (world_of k) leaving ≡ None
-    → is_some (open_command (world_of k) c) ≡ true → Playing lines k notes p (Some c)
-playing_wants lines k notes p leaving c h closed opened =
-    let wants : List Want = wants_of lines k notes p leaving h in
-    let m : Want = record { command = c; steps = length k.steps; notes = length notes } in
-    let count : 0 + 0 + length h.made ≤ length k.steps + length notes =
+pub playing_wants : (lines : List Action) (k : Kept) (p : Player) (leaving : Option ℕ) (c : ℕ) → Playing lines k p leaving → still_open (world_of k) leaving ≡ None
+    → is_some (open_command (world_of k) c) ≡ true → Playing lines k p (Some c)
+playing_wants lines k p leaving c h closed opened =
+    let wants : List Want = wants_of lines k p leaving h in
+    let m : Want = record { command = c; steps = length k.steps; notes = length k.notes } in
+    let count : 0 + 0 + length h.made ≤ length k.steps + length k.notes =
     omega (arith, made_is h.made, ap (λ (ss : List Step). length ss) h.of_steps, ap (λ (ns : List Note). length ns) h.of_notes) in
     record {
       made = h.made;
       past_wants = wants;
       at = length k.steps;
-      noted = length notes;
+      noted = length k.notes;
       played = plays_wanting k.config wants lines (opening k.config) first_player m h.made count h.played;
       player = player_wanting k.config wants lines (opening k.config) first_player m h.made count ∙ h.player;
       of_steps = h.of_steps;
@@ -253,34 +252,40 @@ playing_wants lines k notes p leaving c h closed opened =
       come = omega arith;
       come_noted = omega arith;
       few = h.few;
+      few_notes = h.few_notes;
     }
 
 -- ---- it stops
 
-pub playing_stops : (lines : List Action) (k : Kept) (notes : List Note) (p : Player) (leaving : Option ℕ) (m : Move) (stop : Stop) → Playing lines k notes p leaving
-    → by_leaving k.config (world_of k) lines p (still_open (world_of k) leaving) ≡ m → stop_by (length k.steps) m ≡ Some stop → IsStopped lines k notes stop
-playing_stops lines k notes p leaving m stop h is stops = record {
+pub playing_stops : (lines : List Action) (k : Kept) (p : Player) (leaving : Option ℕ) (m : Move) (stop : Stop) → Playing lines k p leaving
+    → by_leaving k.config (world_of k) lines p (still_open (world_of k) leaving) ≡ m → stop_by (length k.steps) (length k.notes) m ≡ Some stop → IsStopped lines k stop
+playing_stops lines k p leaving m stop h is stops = record {
   made = h.made;
-  wants = wants_of lines k notes p leaving h;
+  wants = wants_of lines k p leaving h;
   played = h.played;
   of_steps = h.of_steps;
   of_notes = h.of_notes;
-  stopped = ap (λ (v : Move). stop_by (length k.steps) v) (playing_move lines k notes p leaving h ∙ is) ∙ stops;
+  stopped = ap (λ (v : Move). stop_by (length k.steps) (length k.notes) v) (playing_move lines k p leaving h ∙ is) ∙ stops;
   few = h.few;
+  few_notes = h.few_notes;
 }
 
-pub full_by : (n : ℕ) (e : Event) (q : Player) → nat_le 1000000 n ≡ true → n ≤ 1000000 → stop_by n (moves.Makes e q) ≡ Some stops.Full
-full_by n e q full few = let same : (n == 1000000) ≡ true = grind (arith, nat_tests) in rw same refl
+pub full_by : (n j : ℕ) (e : Event) (q : Player) → nat_le 1000000 n ≡ true → n ≤ 1000000 → stop_by n j (moves.Makes e q) ≡ Some stops.Full
+full_by n j e q full few = let same : (n == 1000000) ≡ true = grind (arith, nat_tests) in rw same refl
+
+pub noted_full : (n j : ℕ) (r : RefusedAction) (q : Player) → j ≡ 1000000 → stop_by n j (moves.Notes r q) ≡ Some stops.Full
+noted_full n j r q full = let same : (j == 1000000) ≡ true = grind (arith, nat_tests) in rw same refl
 
 -- memory runs out in what no command makes
-pub playing_is_cut : (lines : List Action) (k : Kept) (notes : List Note) (p : Player) (leaving : Option ℕ) (m : Move) → Playing lines k notes p leaving
-    → by_leaving k.config (world_of k) lines p (still_open (world_of k) leaving) ≡ m → IsOfNone m → IsCut lines k notes
-playing_is_cut lines k notes p leaving m h is none = record {
+pub playing_is_cut : (lines : List Action) (k : Kept) (p : Player) (leaving : Option ℕ) (m : Move) → Playing lines k p leaving
+    → by_leaving k.config (world_of k) lines p (still_open (world_of k) leaving) ≡ m → IsOfNone m → IsCut lines k
+playing_is_cut lines k p leaving m h is none = record {
   made = h.made;
-  wants = wants_of lines k notes p leaving h;
+  wants = wants_of lines k p leaving h;
   played = h.played;
   of_steps = h.of_steps;
   of_notes = h.of_notes;
-  of_none = subst (λ (v : Move). IsOfNone v) (sym (playing_move lines k notes p leaving h ∙ is)) none;
+  of_none = subst (λ (v : Move). IsOfNone v) (sym (playing_move lines k p leaving h ∙ is)) none;
   few = h.few;
+  few_notes = h.few_notes;
 }

@@ -16,18 +16,21 @@ use Rattle.shard_script.specs.declared.script.ScriptFault.{ScriptFault}
 use Rattle.shard_script.specs.declared.script.ScriptFault.TheVariants as faults
 use Rattle.shard_script.specs.Script.{Fits, Gives, reading, front}
 use Rattle.shard_top.specs.declared.player.Stop.{Stop}
+use Rattle.shard_top.specs.declared.player.Stop.TheVariants as stops
+use Rattle.shard_top.specs.Memory.{NoneLacked, HasRunPlainly}
 use Rattle.shard_top.specs.Played.{Want, Made, steps_of, notes_of, notes_from, first_moment, config_of, IsRunOf}
 use Rattle.shard_top.specs.Playing.{HasRun, WasCutOff}
 use Rattle.shard_top.specs.Streams.{AppendsFront, WasRead}
 use Rattle.shard_top.specs.Program.{Answer, Answers, IsAnswerOf, IsAnswerToReading, IsAnswerBy, IsAnswerTo, fault_answer, no_config}
 use Rattle.shard_top.specs.Words.{usage_fault}
-use Rattle.vtctld_text.specs.declared.note.Note.{Note}
+use Rattle.shard_calls.specs.declared.event.Note.{Note}
 use Rattle.vtctld_text.specs.Notes.{text_with, AreInPlace}
 use Rattle.shard_top.specs.Texts.{usage_text, fault_text, stop_text, status_of}
 use Rattle.shard_script.proofs.ScriptLemmas.{fits_from}
 use Rattle.shard_top.proofs.LongerLemmas.{steps_append, notes_append}
 use Rattle.shard_top.proofs.RestLemmas.{plays_to_stop}
 use Rattle.shard_top.proofs.LawLemmas.{notes_in_place}
+use Rattle.shard_top.proofs.WantLemmas.{runs_plainly}
 
 -- ---- nothing written, nothing kept
 
@@ -67,16 +70,24 @@ abbrev made_answer : Script → Stop → List Step → List Note → Answer
 made_answer s stop history notes =
     record { status = status_of stop history notes; config = config_of s; history = history; notes = notes; written = text_with history notes ++ stop_text stop }
 
+plainly : (s : Script) (stop : Stop) (history : List Step) (notes : List Note) → HasRun s history notes stop → stop ≢ stops.Full → NoneLacked history → HasRunPlainly s history notes stop
+plainly s stop history notes h not_full none = record {
+  made = h.made;
+  run = runs_plainly s h.wants h.made stop not_full (subst (λ (ss : List Step). NoneLacked ss) (sym h.of_steps) none) h.run;
+  of_steps = h.of_steps;
+  of_notes = h.of_notes;
+}
+
 is_made : (s : Script) (stop : Stop) (history : List Step) (notes : List Note) → HasRun s history notes stop → IsAnswerOf s (made_answer s stop history notes)
-is_made s stop history notes run = record { stop = stop; played = run; status = refl; config = refl; written = refl }
+is_made s stop history notes run = record { stop = stop; played = run; plain = plainly s stop history notes run; status = refl; config = refl; written = refl }
 
 run_is : (s : Script) (wants : List Want) (made : List Made) (stop : Stop) → IsRunOf s wants made stop → HasRun s (steps_of made) (notes_of made) stop
 run_is s wants made stop run = record { wants = wants; made = made; run = run; of_steps = refl; of_notes = refl }
 
 -- its notes stand in their places
-pub stand_in_place : (s : Script) (k : Kept) (steps : List Step) (notes : List Note) (stop : Stop) → steps ≡ k.steps → HasRun s k.steps notes stop → AreInPlace steps notes
-stand_in_place s k steps notes stop is run =
-    subst (λ (ss : List Step). AreInPlace ss notes) (run.of_steps ∙ sym is) (subst (λ (ns : List Note). AreInPlace (steps_of run.made) ns) run.of_notes (notes_in_place run.made))
+pub stand_in_place : (s : Script) (k : Kept) (steps : List Step) (notes : List Note) (stop : Stop) → steps ≡ k.steps → notes ≡ k.notes → HasRun s k.steps k.notes stop → AreInPlace steps notes
+stand_in_place s k steps notes stop is same run =
+    subst (λ (ss : List Step). AreInPlace ss notes) (run.of_steps ∙ sym is) (subst (λ (ns : List Note). AreInPlace (steps_of run.made) ns) (run.of_notes ∙ sym same) (notes_in_place run.made))
 
 -- ---- some answer, and its tablets
 
@@ -85,7 +96,7 @@ SomeAnswer P = (a : Answer) × P a × AreTablets a.config.tablets
 
 of_script : (s : Script) → AreTablets s.tablets → SomeAnswer (λ a. IsAnswerOf s a)
 of_script s h =
-    let w = plays_to_stop s [] [] (omega arith) tt in (
+    let w = plays_to_stop s [] [] (omega arith) (omega arith) tt in (
       made_answer s w.1.0 (steps_of w.0) (notes_of w.0),
       is_made s w.1.0 (steps_of w.0) (notes_of w.0) (run_is s [] w.0 w.1.0 w.1.1),
       h,
@@ -140,7 +151,7 @@ gave_up_words words text calm status history notes o is none unnoted =
 gave_up_playing : (s : Script) (calm : Type 0) (history : List Step) (notes : List Note) (o : Option (List ℕ)) → WasCutOff s history notes → IsSafe (config_of s) history
     → Answered (λ a. IsAnswerOf s a) calm 6 history notes o o
 gave_up_playing s calm history notes o cut safe =
-    let w = plays_to_stop s cut.wants cut.made cut.cut.few cut.cut.played in
+    let w = plays_to_stop s cut.wants cut.made cut.cut.few cut.cut.few_notes cut.cut.played in
     let whole : List Made = cut.made ++ w.0 in (
       made_answer s w.1.0 (steps_of whole) (notes_of whole),
       is_made s w.1.0 (steps_of whole) (notes_of whole) (run_is s cut.wants whole w.1.0 w.1.1),
@@ -157,10 +168,10 @@ gave_up_playing s calm history notes o cut safe =
       },
     )
 
-pub gave_up_by_playing : (s : Script) (calm : Type 0) (k : Kept) (history : List Step) (notes : List Note) (o : Option (List ℕ)) → history ≡ k.steps → k.config ≡ config_of s → IsSafe k.config history
-    → WasCutOff s k.steps notes → Answered (λ a. IsAnswerOf s a) calm 6 history notes o o
-gave_up_by_playing s calm k history notes o is config safe cut =
-    gave_up_playing s calm history notes o (subst (λ (ss : List Step). WasCutOff s ss notes) (sym is) cut) (subst (λ (c : Config). IsSafe c history) config safe)
+pub gave_up_by_playing : (s : Script) (calm : Type 0) (k : Kept) (history : List Step) (notes : List Note) (o : Option (List ℕ)) → history ≡ k.steps → notes ≡ k.notes → k.config ≡ config_of s
+    → IsSafe k.config history → WasCutOff s k.steps k.notes → Answered (λ a. IsAnswerOf s a) calm 6 history notes o o
+gave_up_by_playing s calm k history notes o is same config safe cut =
+    gave_up_playing s calm history notes o (subst (λ (ns : List Note). WasCutOff s history ns) (sym same) (subst (λ (ss : List Step). WasCutOff s ss k.notes) (sym is) cut)) (subst (λ (c : Config). IsSafe c history) config safe)
 
 -- ---- the whole
 
@@ -187,11 +198,12 @@ told_all s stop calm status played history noted notes o n run is same safe said
 )
 
 pub told_by : (s : Script) (stop : Stop) (calm : Type 0) (status : ℕ) (k : Kept) (played history : List Step) (noted notes : List Note) (o n : Option (List ℕ)) → played ≡ k.steps
-    → k.config ≡ config_of s → IsSafe k.config played → HasRun s k.steps noted stop → history ≡ played → notes ≡ noted
+    → noted ≡ k.notes → k.config ≡ config_of s → IsSafe k.config played → HasRun s k.steps k.notes stop → history ≡ played → notes ≡ noted
     → (calm → status ≢ 6 → (status ≡ status_of stop played noted) × Appends o n (text_with played noted ++ stop_text stop)) → AppendsFront o n (text_with played noted ++ stop_text stop)
     → Answered (λ a. IsAnswerOf s a) calm status history notes o n
-told_by s stop calm status k played history noted notes o n same config safe run is kept said part =
-    told_all s stop calm status played history noted notes o n (subst (λ (ss : List Step). HasRun s ss noted stop) (sym same) run) is kept (subst (λ (c : Config). IsSafe c played) config safe) said
+told_by s stop calm status k played history noted notes o n same as_noted config safe run is kept said part =
+    told_all s stop calm status played history noted notes o n
+    (subst (λ (ns : List Note). HasRun s played ns stop) (sym as_noted) (subst (λ (ss : List Step). HasRun s ss k.notes stop) (sym same) run)) is kept (subst (λ (c : Config). IsSafe c played) config safe) said
     part
 
 -- a fault is said, and nothing is kept

@@ -10,7 +10,6 @@ use Rattle.shard_calls.specs.Table.{Met}
 use Rattle.shard_core.specs.Kept.{Kept, Makes, world_of}
 use Rattle.shard_calls.specs.declared.event.Event.{Event}
 use Rattle.shard_script.specs.declared.script.Action.{Action}
-use Rattle.vtctld_text.specs.declared.note.Note.{Note}
 use Rattle.vtctld_text.specs.declared.note.RefusedAction.{RefusedAction}
 use Rattle.planned.specs.Course.{leaves}
 use Rattle.planned.specs.Follows.{maker_of}
@@ -24,10 +23,10 @@ use Rattle.shard_top.specs.declared.player.Stop.TheVariants as stops
 use Rattle.shard_top.specs.declared.playing.Turn.{Turn}
 use Rattle.shard_top.specs.declared.playing.Turn.TheVariants as turns
 use Rattle.shard_top.specs.Played.{plain_move, starts, first_of, start_at, stop_by}
-use Rattle.shard_top.specs.Playing.{still_open, Playing, IsCut, IsTurn}
+use Rattle.shard_top.specs.Playing.{with_note, still_open, Playing, IsCut, IsTurn}
 use Rattle.shard_top.proofs.EndedLemmas.{few_begun}
 use Rattle.shard_top.proofs.LeavingLemmas.{by_leaving, made_fair, leave_fair, still_is, fair_open, leaves_kept}
-use Rattle.shard_top.proofs.PlayingLemmas.{with_note, kept_is, length_with, noted_with, playing_goes_on, playing_notes, playing_wants, playing_stops, playing_is_cut, full_by}
+use Rattle.shard_top.proofs.PlayingLemmas.{kept_is, length_with, noted_with, playing_goes_on, playing_notes, playing_wants, playing_stops, playing_is_cut, full_by, noted_full}
 
 -- ---- lines by their places
 
@@ -56,12 +55,15 @@ not_full n room = grind (arith, nat_tests)
 one_more : (old new : Kept) (e : Event) → Makes old new e → length new.steps ≡ length old.steps + 1
 one_more old new e made = ap (λ (k : Kept). length k.steps) (kept_is old new e made) ∙ length_with old e
 
-turned_on : (lines : List Action) (old new : Kept) (notes : List Note) (p : Player) (leaving : Option ℕ) (e : Event) (q : Player) → Playing lines old notes p leaving
+as_many_notes : (old new : Kept) (e : Event) → Makes old new e → length new.notes ≡ length old.notes
+as_many_notes old new e made = ap (λ (k : Kept). length k.notes) (kept_is old new e made)
+
+turned_on : (lines : List Action) (old new : Kept) (p : Player) (leaving : Option ℕ) (e : Event) (q : Player) → Playing lines old p leaving
     → by_leaving old.config (world_of old) lines p (still_open (world_of old) leaving) ≡ moves.Makes e q → length old.steps < 1000000 → Makes old new e
-    → IsTurn lines old notes new notes (turns.On q leaving)
-turned_on lines old new notes p leaving e q h is room made = (
-  subst (λ (k : Kept). Playing lines k notes q leaving) (sym (kept_is old new e made)) (playing_goes_on lines old notes p leaving e q h is room),
-  omega (arith, one_more old new e made),
+    → IsTurn lines old new (turns.On q leaving)
+turned_on lines old new p leaving e q h is room made = (
+  subst (λ (k : Kept). Playing lines k q leaving) (sym (kept_is old new e made)) (playing_goes_on lines old p leaving e q h is room),
+  omega (arith, one_more old new e made, as_many_notes old new e made),
   made.config,
 )
 
@@ -73,19 +75,19 @@ plain_is : (lines : List Action) (k : Kept) (p : Player) (leaving : Option ℕ) 
     → by_leaving k.config (world_of k) lines p (still_open (world_of k) leaving) ≡ plain_move k.config (world_of k) lines p
 plain_is lines k p leaving closed = ap (λ (o : Option ℕ). by_leaving k.config (world_of k) lines p o) closed
 
-pub leave_full : (lines : List Action) (k : Kept) (notes : List Note) (p : Player) (c : ℕ) → still_open (world_of k) (Some c) ≡ Some c → nat_le 1000000 (length k.steps) ≡ true
-    → Playing lines k notes p (Some c) → IsTurn lines k notes k notes (turns.Stops stops.Full)
-leave_full lines k notes p c opened full h = (
-  playing_stops lines k notes p (Some c) (moves.Makes (leaves (world_of k) c) p) stops.Full h (leaving_is lines k p c opened)
-      (full_by (length k.steps) (leaves (world_of k) c) p full h.few),
+pub leave_full : (lines : List Action) (k : Kept) (p : Player) (c : ℕ) → still_open (world_of k) (Some c) ≡ Some c → nat_le 1000000 (length k.steps) ≡ true
+    → Playing lines k p (Some c) → IsTurn lines k k (turns.Stops stops.Full)
+leave_full lines k p c opened full h = (
+  playing_stops lines k p (Some c) (moves.Makes (leaves (world_of k) c) p) stops.Full h (leaving_is lines k p c opened)
+      (full_by (length k.steps) (length k.notes) (leaves (world_of k) c) p full h.few),
   refl,
 )
 
-pub leave_on : (lines : List Action) (old new : Kept) (notes : List Note) (p : Player) (c : ℕ) (e : Event) → still_open (world_of old) (Some c) ≡ Some c
-    → nat_le 1000000 (length old.steps) ≡ false → e ≡ leaves (world_of old) c → Makes old new e → Playing lines old notes p (Some c)
-    → IsTurn lines old notes new notes (turns.On p (Some c))
-leave_on lines old new notes p c e opened room is made h =
-    turned_on lines old new notes p (Some c) e p h (leaving_is lines old p c opened ∙ ap (λ (v : Event). moves.Makes v p) (sym is)) (not_full (length old.steps) room) made
+pub leave_on : (lines : List Action) (old new : Kept) (p : Player) (c : ℕ) (e : Event) → still_open (world_of old) (Some c) ≡ Some c
+    → nat_le 1000000 (length old.steps) ≡ false → e ≡ leaves (world_of old) c → Makes old new e → Playing lines old p (Some c)
+    → IsTurn lines old new (turns.On p (Some c))
+leave_on lines old new p c e opened room is made h =
+    turned_on lines old new p (Some c) e p h (leaving_is lines old p c opened ∙ ap (λ (v : Event). moves.Makes v p) (sym is)) (not_full (length old.steps) room) made
 
 pub leave_met : (config : Config) (w : World) (c : ℕ) (e : Event) → still_open w (Some c) ≡ Some c → e ≡ leaves w c → Met config w e
 leave_met config w c e opened is = subst (λ (v : Event). Met config w v) (sym is) (leave_fair config w c (still_is w (Some c) c opened).1).met
@@ -102,52 +104,60 @@ pub maker_is_open : (old mid : Kept) (e : Event) (o : Option ℕ) → mid ≡ ol
     → o ≡ Some c → is_some (open_command (world_of mid) c) ≡ true
 maker_is_open old mid e o same opened is c one = subst (λ (k : Kept). is_some (open_command (world_of k) c) ≡ true) (sym same) (opened c (sym is ∙ one))
 
-pub gives_up : (lines : List Action) (k : Kept) (notes : List Note) (p : Player) (leaving : Option ℕ) (c : ℕ) → still_open (world_of k) (Some c) ≡ Some c → still_open (world_of k) leaving ≡ None
-    → Playing lines k notes p leaving → Playing lines k notes p (Some c)
-gives_up lines k notes p leaving c opened closed h = playing_wants lines k notes p leaving c h closed (still_is (world_of k) (Some c) c opened).1
+pub gives_up : (lines : List Action) (k : Kept) (p : Player) (leaving : Option ℕ) (c : ℕ) → still_open (world_of k) (Some c) ≡ Some c → still_open (world_of k) leaving ≡ None
+    → Playing lines k p leaving → Playing lines k p (Some c)
+gives_up lines k p leaving c opened closed h = playing_wants lines k p leaving c h closed (still_is (world_of k) (Some c) c opened).1
 
-pub plain_on : (lines : List Action) (old new : Kept) (notes : List Note) (p : Player) (leaving : Option ℕ) (e : Event) (q : Player) → still_open (world_of old) leaving ≡ None
-    → length old.steps < 1000000 → Makes old new e → Playing lines old notes p leaving → plain_move old.config (world_of old) lines p ≡ moves.Makes e q
-    → IsTurn lines old notes new notes (turns.On q leaving)
-plain_on lines old new notes p leaving e q closed room made h is = turned_on lines old new notes p leaving e q h (plain_is lines old p leaving closed ∙ is) room made
+pub plain_on : (lines : List Action) (old new : Kept) (p : Player) (leaving : Option ℕ) (e : Event) (q : Player) → still_open (world_of old) leaving ≡ None
+    → length old.steps < 1000000 → Makes old new e → Playing lines old p leaving → plain_move old.config (world_of old) lines p ≡ moves.Makes e q
+    → IsTurn lines old new (turns.On q leaving)
+plain_on lines old new p leaving e q closed room made h is = turned_on lines old new p leaving e q h (plain_is lines old p leaving closed ∙ is) room made
 
 -- where the event found no memory, a turn is that of its command
 pub plain_else : (r : Result Turn OutOfMemory) (old mid new : Kept) (p : Player) (leaving : Option ℕ) (e : Event) (q : Player) → mid ≡ old → still_open (world_of old) leaving ≡ None
-    → IfOk r (λ t. (lines : List Action) (notes : List Note) (l : Option ℕ) → still_open (world_of mid) l ≡ None → Playing lines mid notes p l → IsTurn lines mid notes new notes t)
-    → IfOk r (λ t. (lines : List Action) (notes : List Note) → Playing lines old notes p leaving → plain_move old.config (world_of old) lines p ≡ moves.Makes e q
-    → IsTurn lines old notes new notes t)
+    → IfOk r (λ t. (lines : List Action) (l : Option ℕ) → still_open (world_of mid) l ≡ None → Playing lines mid p l → IsTurn lines mid new t)
+    → IfOk r (λ t. (lines : List Action) → Playing lines old p leaving → plain_move old.config (world_of old) lines p ≡ moves.Makes e q
+    → IsTurn lines old new t)
 plain_else r old mid new p leaving e q same closed h =
     of_result r
-    (subst (λ (k : Kept). IfOk r (λ t. (lines : List Action) (notes : List Note) (l : Option ℕ) → still_open (world_of k) l ≡ None → Playing lines k notes p l → IsTurn lines k notes new notes t)) same
+    (subst (λ (k : Kept). IfOk r (λ t. (lines : List Action) (l : Option ℕ) → still_open (world_of k) l ≡ None → Playing lines k p l → IsTurn lines k new t)) same
     h)
   where
     of_result : (r : Result Turn OutOfMemory)
-        → IfOk r (λ t. (lines : List Action) (notes : List Note) (l : Option ℕ) → still_open (world_of old) l ≡ None → Playing lines old notes p l → IsTurn lines old notes new notes t)
-        → IfOk r (λ t. (lines : List Action) (notes : List Note) → Playing lines old notes p leaving → plain_move old.config (world_of old) lines p ≡ moves.Makes e q
-        → IsTurn lines old notes new notes t)
-    of_result (Ok t) f = λ lines notes k is. f lines notes leaving closed k
+        → IfOk r (λ t. (lines : List Action) (l : Option ℕ) → still_open (world_of old) l ≡ None → Playing lines old p l → IsTurn lines old new t)
+        → IfOk r (λ t. (lines : List Action) → Playing lines old p leaving → plain_move old.config (world_of old) lines p ≡ moves.Makes e q
+        → IsTurn lines old new t)
+    of_result (Ok t) f = λ lines k is. f lines leaving closed k
     of_result (Err x) f = tt
 
 -- a line is refused, and noted
-pub plain_notes : (lines : List Action) (k : Kept) (before after : List Note) (p : Player) (leaving : Option ℕ) (r : RefusedAction) (q : Player) → Playing lines k before p leaving
-    → still_open (world_of k) leaving ≡ None → plain_move k.config (world_of k) lines p ≡ moves.Notes r q → after ≡ with_note k before r
-    → IsTurn lines k before k after (turns.On q leaving)
-plain_notes lines k before after p leaving r q h closed is noted = (
-  subst (λ (ns : List Note). Playing lines k ns q leaving) (sym noted) (playing_notes lines k before p leaving r q h (plain_is lines k p leaving closed ∙ is)),
-  omega (arith, ap (λ (ns : List Note). length ns) noted, noted_with k before r),
-  refl,
+pub plain_notes : (lines : List Action) (old new : Kept) (p : Player) (leaving : Option ℕ) (r : RefusedAction) (q : Player) → new ≡ with_note old r → length old.notes < 1000000
+    → Playing lines old p leaving → still_open (world_of old) leaving ≡ None → plain_move old.config (world_of old) lines p ≡ moves.Notes r q
+    → IsTurn lines old new (turns.On q leaving)
+plain_notes lines old new p leaving r q noted room h closed is = (
+  subst (λ (k : Kept). Playing lines k q leaving) (sym noted) (playing_notes lines old p leaving r q h (plain_is lines old p leaving closed ∙ is) room),
+  omega (arith, ap (λ (k : Kept). length k.notes) noted, ap (λ (k : Kept). length k.steps) noted, noted_with old r),
+  ap (λ (k : Kept). k.config) noted,
 )
 
-pub plain_stop : (lines : List Action) (k : Kept) (notes : List Note) (p : Player) (leaving : Option ℕ) (m : Move) (stop : Stop) → Playing lines k notes p leaving
-    → still_open (world_of k) leaving ≡ None → plain_move k.config (world_of k) lines p ≡ m → stop_by (length k.steps) m ≡ Some stop
-    → IsTurn lines k notes k notes (turns.Stops stop)
-plain_stop lines k notes p leaving m stop h closed is stops = (playing_stops lines k notes p leaving m stop h (plain_is lines k p leaving closed ∙ is) stops, refl)
+pub plain_stop : (lines : List Action) (k : Kept) (p : Player) (leaving : Option ℕ) (m : Move) (stop : Stop) → Playing lines k p leaving
+    → still_open (world_of k) leaving ≡ None → plain_move k.config (world_of k) lines p ≡ m → stop_by (length k.steps) (length k.notes) m ≡ Some stop
+    → IsTurn lines k k (turns.Stops stop)
+plain_stop lines k p leaving m stop h closed is stops = (playing_stops lines k p leaving m stop h (plain_is lines k p leaving closed ∙ is) stops, refl)
 
-pub plain_full : (lines : List Action) (k : Kept) (notes : List Note) (p : Player) (leaving : Option ℕ) (e : Event) (q : Player) → Playing lines k notes p leaving
+pub plain_full : (lines : List Action) (k : Kept) (p : Player) (leaving : Option ℕ) (e : Event) (q : Player) → Playing lines k p leaving
     → still_open (world_of k) leaving ≡ None → plain_move k.config (world_of k) lines p ≡ moves.Makes e q → nat_le 1000000 (length k.steps) ≡ true
-    → IsTurn lines k notes k notes (turns.Stops stops.Full)
-plain_full lines k notes p leaving e q h closed is full =
-    plain_stop lines k notes p leaving (moves.Makes e q) stops.Full h closed is (full_by (length k.steps) e q full h.few)
+    → IsTurn lines k k (turns.Stops stops.Full)
+plain_full lines k p leaving e q h closed is full =
+    plain_stop lines k p leaving (moves.Makes e q) stops.Full h closed is (full_by (length k.steps) (length k.notes) e q full h.few)
+
+-- a line is refused, in a history with all the notes that it may have
+pub plain_noted_full : (lines : List Action) (old new : Kept) (p : Player) (leaving : Option ℕ) (r : RefusedAction) (q : Player) → new ≡ old → length old.notes ≡ 1000000
+    → Playing lines old p leaving → still_open (world_of old) leaving ≡ None → plain_move old.config (world_of old) lines p ≡ moves.Notes r q
+    → IsTurn lines old new (turns.Stops stops.Full)
+plain_noted_full lines old new p leaving r q same full h closed is =
+    subst (λ (k : Kept). IsTurn lines old k (turns.Stops stops.Full)) (sym same)
+    (plain_stop lines old p leaving (moves.Notes r q) stops.Full h closed is (noted_full (length old.steps) (length old.notes) r q full))
 
 pub plain_met : (lines : List Action) (k : Kept) (p : Player) (leaving : Option ℕ) (e : Event) (q : Player) → NextIsMet k.config (world_of k) → still_open (world_of k) leaving ≡ None
     → plain_move k.config (world_of k) lines p ≡ moves.Makes e q → Met k.config (world_of k) e
@@ -160,23 +170,32 @@ plain_open lines k p leaving e q known closed is c made =
 
 -- ---- memory runs out in what no command makes
 
-pub plain_cut : (r : Result Turn OutOfMemory) (lines : List Action) (old new : Kept) (notes : List Note) (p : Player) (leaving : Option ℕ) (e : Event) (q : Player)
-    → Playing lines old notes p leaving → still_open (world_of old) leaving ≡ None → plain_move old.config (world_of old) lines p ≡ moves.Makes e q → OnErr r (new ≡ old)
-    → OnErr r (maker_of e ≡ None) → OnErr r (IsCut lines new notes)
-plain_cut (Ok t) lines old new notes p leaving e q h closed is same none = same
-plain_cut (Err x) lines old new notes p leaving e q h closed is same none =
-    subst (λ (k : Kept). IsCut lines k notes) (sym same) (playing_is_cut lines old notes p leaving (moves.Makes e q) h (plain_is lines old p leaving closed ∙ is) none)
+pub plain_cut : (r : Result Turn OutOfMemory) (lines : List Action) (old new : Kept) (p : Player) (leaving : Option ℕ) (e : Event) (q : Player)
+    → Playing lines old p leaving → still_open (world_of old) leaving ≡ None → plain_move old.config (world_of old) lines p ≡ moves.Makes e q → OnErr r (new ≡ old)
+    → OnErr r (maker_of e ≡ None) → OnErr r (IsCut lines new)
+plain_cut (Ok t) lines old new p leaving e q h closed is same none = same
+plain_cut (Err x) lines old new p leaving e q h closed is same none =
+    subst (λ (k : Kept). IsCut lines k) (sym same) (playing_is_cut lines old p leaving (moves.Makes e q) h (plain_is lines old p leaving closed ∙ is) none)
 
-pub note_cut : (r : Result Turn OutOfMemory) (lines : List Action) (k : Kept) (before after : List Note) (p : Player) (leaving : Option ℕ) (x : RefusedAction) (q : Player)
-    → Playing lines k before p leaving → still_open (world_of k) leaving ≡ None → plain_move k.config (world_of k) lines p ≡ moves.Notes x q → after ≡ before → OnErr r (IsCut lines k after)
-note_cut (Ok t) lines k before after p leaving x q h closed is same = tt
-note_cut (Err e) lines k before after p leaving x q h closed is same =
-    subst (λ (ns : List Note). IsCut lines k ns) (sym same) (playing_is_cut lines k before p leaving (moves.Notes x q) h (plain_is lines k p leaving closed ∙ is) tt)
+pub note_cut : (r : Result Turn OutOfMemory) (lines : List Action) (old new : Kept) (p : Player) (leaving : Option ℕ) (x : RefusedAction) (q : Player)
+    → Playing lines old p leaving → still_open (world_of old) leaving ≡ None → plain_move old.config (world_of old) lines p ≡ moves.Notes x q → OnErr r (new ≡ old) → OnErr r (IsCut lines new)
+note_cut (Ok t) lines old new p leaving x q h closed is same = tt
+note_cut (Err e) lines old new p leaving x q h closed is same =
+    subst (λ (k : Kept). IsCut lines k) (sym same) (playing_is_cut lines old p leaving (moves.Notes x q) h (plain_is lines old p leaving closed ∙ is) tt)
+
+-- where the line was noted, or was one too many, a turn is that of the player
+pub noted_else : (r : Result Turn OutOfMemory) (lines : List Action) (old new : Kept) (p : Player) (leaving : Option ℕ) (x : RefusedAction) (q : Player) → Playing lines old p leaving
+    → still_open (world_of old) leaving ≡ None → plain_move old.config (world_of old) lines p ≡ moves.Notes x q
+    → IfOk r (λ t. (ls : List Action) (before : Player) → Playing ls old before leaving → still_open (world_of old) leaving ≡ None
+    → plain_move old.config (world_of old) ls before ≡ moves.Notes x q → IsTurn ls old new t)
+    → IfOk r (λ t. IsTurn lines old new t)
+noted_else (Ok t) lines old new p leaving x q h closed is f = f lines p h closed is
+noted_else (Err e) lines old new p leaving x q h closed is f = tt
 
 -- ---- there is an end
 
 -- a turn that goes on leaves less: fewer steps, or fewer lines that may be noted
-pub less_left : (lines : List Action) (old new : Kept) (before after : List Note) (p q : Player) (leaving other : Option ℕ) → Playing lines old before p leaving → Playing lines new after q other
-    → length old.steps + length before < length new.steps + length after
-    → (1000000 - length new.steps) + (length lines - length after) < (1000000 - length old.steps) + (length lines - length before)
-less_left lines old new before after p q leaving other h k more = omega (arith, h.few, k.few, h.counted, h.each_line_once, h.within, k.counted, k.each_line_once, k.within, more)
+pub less_left : (lines : List Action) (old new : Kept) (p q : Player) (leaving other : Option ℕ) → Playing lines old p leaving → Playing lines new q other
+    → length old.steps + length old.notes < length new.steps + length new.notes
+    → (1000000 - length new.steps) + (length lines - length new.notes) < (1000000 - length old.steps) + (length lines - length old.notes)
+less_left lines old new p q leaving other h k more = omega (arith, h.few, k.few, h.counted, h.each_line_once, h.within, k.counted, k.each_line_once, k.within, more)

@@ -1,11 +1,13 @@
 -- The laws of played runs.
-use Rattle.std.specs.Prelude.{◌≡◌, ◌≤◌, List, ◌++◌, length}
+use Rattle.std.specs.Prelude.{◌≡◌, ◌≢◌, ◌≤◌, List, [], ◌++◌, length}
 use Rattle.shard_calls.specs.World.{opening}
 use Rattle.shard_calls.specs.Table.{IsRun}
 use Rattle.shard_script.specs.declared.script.Script.{Script}
 use Rattle.planned.specs.Follows.{FollowCourses}
 use Rattle.vtctld_text.specs.Notes.{AreInPlace}
 use Rattle.shard_top.specs.declared.player.Stop.{Stop}
+use Rattle.shard_top.specs.declared.player.Stop.TheVariants as stops
+use Rattle.shard_top.specs.Memory.{NoneLacked}
 use Rattle.shard_top.specs.Played.{Want, Made, steps_of, notes_of, config_of, IsPlayed, IsRunOf}
 
 -- with given wants of memory a script plays one run
@@ -17,8 +19,15 @@ OneRun =
 -- what is played goes on to a stop
 abbrev pub PlaysToStop : Type 0
 PlaysToStop =
-    (s : Script) (wants : List Want) (made : List Made) → length (steps_of made) ≤ 1000000 → IsPlayed s wants made
+    (s : Script) (wants : List Want) (made : List Made) → length (steps_of made) ≤ 1000000 → length (notes_of made) ≤ 1000000 → IsPlayed s wants made
     → (rest : List Made) × ((stop : Stop) × IsRunOf s wants (made ++ rest) stop)
+
+-- Where no command was refused for want of memory, a script that is over or blocked has played the run that wants none: so its history, its notes, its
+-- status and what it prints are one function of the script.
+abbrev pub RunsPlainly : Type 0
+RunsPlainly =
+    (s : Script) (wants : List Want) (made : List Made) (stop : Stop) → stop ≢ stops.Full → NoneLacked (steps_of made) → IsRunOf s wants made stop
+    → IsRunOf s [] made stop
 
 -- the steps of what is played are a run of the machine, in which commands keep to their courses
 abbrev pub PlayedIsRun : Type 0

@@ -1,5 +1,6 @@
 pub mod Streams
 pub mod Played
+pub mod Memory
 pub mod Playing
 pub mod Texts
 pub mod Words

@@ -16,7 +16,8 @@ use Rattle.arrivals.specs.Arrivals.{next_due, next_offered}
 use Rattle.planned.specs.Course.{next, leaves}
 use Rattle.planned.specs.Follows.{maker_of}
 use Rattle.planned.specs.Leaving.{or_else}
-use Rattle.vtctld_text.specs.declared.note.Note.{Note}
+use Rattle.shard_calls.specs.declared.event.Note.{Note}
+use Rattle.vtctld_text.specs.Notes.{action_text}
 use Rattle.vtctld_text.specs.declared.note.RefusedAction.{RefusedAction}
 use Rattle.vtctld_text.specs.declared.note.RefusedAction.TheVariants as refusals
 use Rattle.shard_top.specs.declared.player.Task.{Task}
@@ -186,7 +187,7 @@ steps_of (Noted refused ∷ made) = steps_of made
 abbrev pub notes_from : ℕ → List Made → List Note
 notes_from place [] = []
 notes_from place (Stepped s ∷ made) = notes_from (place + 1) made
-notes_from place (Noted refused ∷ made) = record { place = place; action = refused } ∷ notes_from place made
+notes_from place (Noted refused ∷ made) = record { place = place; line = action_text refused } ∷ notes_from place made
 
 abbrev pub notes_of : List Made → List Note
 notes_of made = notes_from 0 made
@@ -226,12 +227,13 @@ player_after config wants lines w p [] = p
 player_after config wants lines w p (m ∷ made) =
     player_after config wants lines (world_by config w (move config wants lines w p)) (player_by p (move config wants lines w p)) made
 
--- why no more is made after so many steps, if so: all is done, a command is blocked, or the history has all the steps that it may have
-abbrev pub stop_by : ℕ → Move → Option Stop
-stop_by steps moves.Over = Some stops.Over
-stop_by steps (moves.Blocked name) = Some (stops.Blocked name)
-stop_by steps (moves.Notes refused q) = None
-stop_by steps (moves.Makes e q) = if steps == 1000000 then Some stops.Full else None
+-- why no more is made after so many steps and notes, if so: all is done, a command is blocked, or the history has all the steps or all the
+-- notes that it may have, and one more is to come
+abbrev pub stop_by : ℕ → ℕ → Move → Option Stop
+stop_by steps noted moves.Over = Some stops.Over
+stop_by steps noted (moves.Blocked name) = Some (stops.Blocked name)
+stop_by steps noted (moves.Notes refused q) = if noted == 1000000 then Some stops.Full else None
+stop_by steps noted (moves.Makes e q) = if steps == 1000000 then Some stops.Full else None
 
 -- ---- a script
 
@@ -260,11 +262,12 @@ abbrev pub move_after : Script → List Want → List Made → Move
 move_after s wants made =
     move (config_of s) wants s.actions (world_played s made) (player_after (config_of s) wants s.actions (opening (config_of s)) first_player made)
 
--- the run that the script plays, to this stop: it has no more steps than a history may have
+-- the run that the script plays, to this stop: it has no more steps and notes than a history may have
 pub record IsRunOf (s : Script) (wants : List Want) (made : List Made) (stop : Stop) : Type 0 where
   pub played : IsPlayed s wants made
-  pub stopped : stop_by (length (steps_of made)) (move_after s wants made) ≡ Some stop
+  pub stopped : stop_by (length (steps_of made)) (length (notes_of made)) (move_after s wants made) ≡ Some stop
   pub few : length (steps_of made) ≤ 1000000
+  pub few_notes : length (notes_of made) ≤ 1000000
 
 -- whether no command makes what this move makes: a line's own event, a message that comes, or a note
 abbrev pub IsOfNone : Move → Type 0
@@ -278,3 +281,4 @@ pub record IsCutOff (s : Script) (wants : List Want) (made : List Made) : Type 0
   pub played : IsPlayed s wants made
   pub of_none : IsOfNone (move_after s wants made)
   pub few : length (steps_of made) ≤ 1000000
+  pub few_notes : length (notes_of made) ≤ 1000000

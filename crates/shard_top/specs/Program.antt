@@ -9,7 +9,9 @@ use Rattle.shard_calls.specs.declared.event.Step.{Step}
 use Rattle.shard_script.specs.declared.script.Script.{Script}
 use Rattle.shard_script.specs.Script.{reading}
 use Rattle.shard_top.specs.declared.player.Stop.{Stop}
-use Rattle.vtctld_text.specs.declared.note.Note.{Note}
+use Rattle.shard_top.specs.declared.player.Stop.TheVariants as stops
+use Rattle.shard_top.specs.Memory.{NoneLacked, HasRunPlainly}
+use Rattle.shard_calls.specs.declared.event.Note.{Note}
 use Rattle.vtctld_text.specs.Notes.{text_with}
 use Rattle.shard_top.specs.Played.{first_moment, config_of}
 use Rattle.shard_top.specs.Playing.{HasRun}
@@ -29,10 +31,12 @@ pub record Answer : Type 0 where
 abbrev pub no_config : Config
 no_config = record { tablets = []; policy = policies.None; moment = first_moment }
 
--- A script is played to a stop, with some wants of memory, and the answers are written, with the reason of the stop.
+-- A script is played to a stop, with some wants of memory, and the answers are written, with the reason of the stop. Where it is over or blocked, and no
+-- command was refused for want of memory, it has played the run that wants none: so all of this is one function of the script.
 pub record IsAnswerOf (s : Script) (a : Answer) : Type 0 where
   pub stop : Stop
   pub played : HasRun s a.history a.notes stop
+  pub plain : stop ≢ stops.Full → NoneLacked a.history → HasRunPlainly s a.history a.notes stop
   pub status : a.status ≡ status_of stop a.history a.notes
   pub config : a.config ≡ config_of s
   pub written : a.written ≡ text_with a.history a.notes ++ stop_text stop

@@ -4,7 +4,7 @@ use Rattle.std.specs.Fmt.{decimal}
 use Rattle.shard_calls.specs.declared.event.Step.{Step}
 use Rattle.vtctld_text.specs.Stands.{line}
 use Rattle.vtctld_text.specs.Notes.{has_refusal_with}
-use Rattle.vtctld_text.specs.declared.note.Note.{Note}
+use Rattle.shard_calls.specs.declared.event.Note.{Note}
 use Rattle.shard_top.specs.declared.player.Stop.{Stop}
 use Rattle.shard_top.specs.declared.player.Stop.TheVariants as stops
 
@@ -14,7 +14,7 @@ use Rattle.shard_top.specs.declared.player.Stop.TheVariants as stops
 unfoldable pub blocked_text : List ℕ → List ℕ
 blocked_text name = line (codes "blocked: " ++ name)
 
--- a further event would be more than a history has
+-- a further event, or a further note, would be more than a history has
 unfoldable pub full_text : List ℕ
 full_text = line (codes "too many events")
 

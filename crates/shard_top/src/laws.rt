@@ -1,8 +1,13 @@
-ghost use Rattle.shard_top.specs.Laws.{OneRun, PlaysToStop, PlayedIsRun, NotesInPlace};
+ghost use Rattle.shard_top.specs.Laws.{OneRun, RunsPlainly, PlaysToStop, PlayedIsRun, NotesInPlace};
 
 /// With given wants of memory a script plays one run, to one stop.
 pub fn one_run()
     ensures { OneRun }
+{}
+
+/// Where no command was refused for want of memory, what is played to the end is the run that wants none.
+pub fn runs_plainly()
+    ensures { RunsPlainly }
 {}
 
 /// What is played with some wants of memory goes on to a stop.

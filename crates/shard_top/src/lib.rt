@@ -11,7 +11,7 @@ mod texts;
 mod top;
 mod words;
 
-pub use laws::{notes_in_place, one_run, played_is_run, plays_to_stop};
+pub use laws::{notes_in_place, one_run, played_is_run, plays_to_stop, runs_plainly};
 pub use memory::{MemorySink, MemorySource};
 pub use sink::{Sink, put_all};
 pub use source::{Failed, ReadFault, Source, read_all};

@@ -385,10 +385,10 @@ fn crash(shard: &Shard, alias: &Alias, keep: u64) -> Go
     plainly(shard, event)
 }
 
-fn tick(shard: &Shard, milliseconds: u64) -> Go
-    ensures { result ≡ asked shard.now.config (world_of shard.now) (events.Tick milliseconds) tasks.Free }
+fn tick(shard: &Shard, ms: u64) -> Go
+    ensures { result ≡ asked shard.now.config (world_of shard.now) (events.Tick ms) tasks.Free }
 {
-    let event = Event::Tick { milliseconds };
+    let event = Event::Tick { ms };
     plainly(shard, event)
 }
 
@@ -453,7 +453,7 @@ fn starts(shard: &Shard, line: &Action) -> Result<Start, Wanting>
         Action::Lose { message } => Ok(lose(shard, *message)),
         Action::Repeat { message } => Ok(repeat(shard, *message)),
         Action::Lapse => Ok(goes(plainly(shard, Event::Lapse))),
-        Action::Tick { milliseconds } => Ok(goes(tick(shard, *milliseconds))),
+        Action::Tick { ms } => Ok(goes(tick(shard, *ms))),
     }
 }
 

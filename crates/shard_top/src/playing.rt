@@ -1,4 +1,4 @@
-ghost use Rattle.std.specs.Prelude.{◌≡◌, ◌≤◌, ◌<◌, [], ◌∷◌, ◌++◌, length, List, ℕ, true, nat_le, is_some, IfOk, OnOk, OnErr, IsOk, MatchResult, Option, Some, None};
+ghost use Rattle.std.specs.Prelude.{◌≡◌, ◌≤◌, ◌<◌, [], ◌∷◌, ◌++◌, length, List, ℕ, true, nat_le, is_some, IfOk, OnOk, OnErr, IsOk, IsErrOf, MatchResult, Option, Some, None};
 ghost use Rattle.shard_calls.specs.World.{open_command};
 ghost use Rattle.shard_core.specs.Room.{has_room_kept};
 ghost use Rattle.shard_calls.specs.Table.{Met};
@@ -8,16 +8,17 @@ ghost use Rattle.planned.specs.Follows.{maker_of};
 ghost use Rattle.planned.specs.Laws.{NextIsMet};
 ghost use Rattle.shard_script.specs.declared.script.Action.{Action as Line};
 ghost use Rattle.shard_top.specs.declared.player.Move.TheVariants as moves;
+ghost use Rattle.shard_top.specs.declared.player.Player.{Player as Stands};
 ghost use Rattle.shard_top.specs.Played.{first_moment, config_of, plain_move};
-ghost use Rattle.vtctld_text.specs.declared.note.Note.{Note as Noted};
-ghost use Rattle.shard_top.specs.Playing.{still_open, Playing, IsStopped, IsCut, IsTurn, HasRun, WasCutOff};
+ghost use Rattle.vtctld_text.specs.Notes.{action_text};
+ghost use Rattle.shard_top.specs.Playing.{with_note, still_open, Playing, IsStopped, IsCut, IsTurn, HasRun, WasCutOff};
 
 use crate::player::{Move, Player, Stop, Task, Wanting, first_player, plain_move};
-use shard_base::OutOfMemory;
-use shard_calls::Event;
+use shard_base::{Items, OutOfMemory};
+use shard_calls::{Event, Halt};
 use shard_core::{MOST_STEPS, Refused, Shard};
 use shard_script::{Action, Script};
-use vtctld_text::{Note, RefusedAction};
+use vtctld_text::{RefusedAction, action_line};
 
 /// The moment at which the clock begins: 2024-01-01T00:00:00Z, in milliseconds since the start of 1970.
 #[tactic(auto, unfolding(crate::specs::Played::first_moment))]
@@ -124,7 +125,7 @@ fn leaves(shard: &Shard, command: u64) -> Event
 /// The open command, which has run out of memory, frees the lock, or else ends. It takes no memory.
 fn leave(shard: &mut Shard, command: u64, player: &Player) -> Turn
     requires is_open { still_open (world_of shard.old) (Some command) ≡ Some command }
-    ensures { (lines : List Line) (notes : List Noted) → Playing lines shard.old notes player.now (Some command) → IsTurn lines shard.old notes shard.new notes result }
+    ensures { (lines : List Line) → Playing lines shard.old player.now (Some command) → IsTurn lines shard.old shard.new result }
 {
     if is_full(shard) {
         return Turn::Stops { stop: Stop::Full };
@@ -139,8 +140,8 @@ fn leave(shard: &mut Shard, command: u64, player: &Player) -> Turn
 /// Memory has run out for a command that is open: it leaves.
 fn leave_now(shard: &mut Shard, command: u64, player: &Player) -> Turn
     requires is_open { is_some (open_command (world_of shard.old) command) ≡ true }
-    ensures { (lines : List Line) (notes : List Noted) (leaving : Option ℕ) → still_open (world_of shard.old) leaving ≡ None
-        → Playing lines shard.old notes player.now leaving → IsTurn lines shard.old notes shard.new notes result }
+    ensures { (lines : List Line) (leaving : Option ℕ) → still_open (world_of shard.old) leaving ≡ None
+        → Playing lines shard.old player.now leaving → IsTurn lines shard.old shard.new result }
 {
     leave(shard, command, player)
 }
@@ -148,8 +149,8 @@ fn leave_now(shard: &mut Shard, command: u64, player: &Player) -> Turn
 /// Memory has run out in an event of this command, which leaves. Where no command makes it, all ends.
 fn give_up(shard: &mut Shard, maker: Option<u64>, player: &Player) -> Result<Turn, OutOfMemory>
     requires is_open { (c : ℕ) → maker ≡ Some c → is_some (open_command (world_of shard.old) c) ≡ true }
-    ensures turn { IfOk result (λ turn. (lines : List Line) (notes : List Noted) (leaving : Option ℕ) → still_open (world_of shard.old) leaving ≡ None
-        → Playing lines shard.old notes player.now leaving → IsTurn lines shard.old notes shard.new notes turn) }
+    ensures turn { IfOk result (λ turn. (lines : List Line) (leaving : Option ℕ) → still_open (world_of shard.old) leaving ≡ None
+        → Playing lines shard.old player.now leaving → IsTurn lines shard.old shard.new turn) }
     ensures err { OnErr result (shard.new ≡ shard.old) }
     ensures cut { OnErr result (maker ≡ None) }
 {
@@ -174,8 +175,8 @@ fn make_or_leave(
     requires is_open { (c : ℕ) → maker_of event ≡ Some c → is_some (open_command (world_of shard.old) c) ≡ true }
     requires room { length shard.old.steps < 1000000 }
     requires closed { still_open (world_of shard.old) leaving ≡ None }
-    ensures turn { IfOk result (λ turn. (lines : List Line) (notes : List Noted) → Playing lines shard.old notes player.now leaving
-        → plain_move shard.old.config (world_of shard.old) lines player.now ≡ moves.Makes event next.now → IsTurn lines shard.old notes shard.new notes turn) }
+    ensures turn { IfOk result (λ turn. (lines : List Line) → Playing lines shard.old player.now leaving
+        → plain_move shard.old.config (world_of shard.old) lines player.now ≡ moves.Makes event next.now → IsTurn lines shard.old shard.new turn) }
     ensures err { OnErr result (shard.new ≡ shard.old) }
     ensures cut { OnErr result (maker_of event ≡ None) }
 {
@@ -189,34 +190,62 @@ fn make_or_leave(
     }
 }
 
-/// Notes that a line was refused, behind the steps of the history.
-fn note(shard: &Shard, notes: &mut Vec<Note>, refused: RefusedAction) -> Result<(), OutOfMemory>
-    requires few { length shard.now.steps ≤ 1000000 }
-    ensures ok { OnOk result (notes.new.items ≡ notes.old.items ++ record { place = length shard.now.steps; action = refused } ∷ []) }
-    ensures err { OnErr result (notes.new.items ≡ notes.old.items) }
+/// The line that says that an action was refused.
+fn line_of(shard: &Shard, refused: &RefusedAction) -> Result<Items<u8>, OutOfMemory>
+    ensures { IfOk result (λ line. line ≡ action_text refused.now) }
 {
-    let place = shard.history().steps.len() as u64;
-    let action = refused;
-    notes.push(Note { place, action })?;
-    Ok(())
+    action_line(shard.fields().alloc, refused)
+}
+
+/// Notes that a line was refused, behind the steps of the history.
+fn note(shard: &mut Shard, refused: &RefusedAction) -> Result<(), Halt>
+    ensures ok { OnOk result (shard.new ≡ with_note shard.old refused.now) }
+    ensures err { OnErr result (shard.new ≡ shard.old) }
+    ensures room { OnOk result (length shard.old.notes < 1000000) }
+    ensures full { IsErrOf result Halt.Full → length shard.old.notes ≡ 1000000 }
+{
+    match line_of(shard, refused) {
+        Ok(line) => shard.note(line),
+        Err(OutOfMemory) => Err(Halt::OutOfMemory),
+    }
+}
+
+/// The line is refused, which is noted.
+fn note_or_stop(
+    shard: &mut Shard,
+    refused: &RefusedAction,
+    player: &Player,
+    leaving: Option<u64>,
+) -> Result<Turn, OutOfMemory>
+    ensures turn { IfOk result (λ turn. (lines : List Line) (before : Stands) → Playing lines shard.old before leaving → still_open (world_of shard.old) leaving ≡ None
+        → plain_move shard.old.config (world_of shard.old) lines before ≡ moves.Notes refused.now player.now → IsTurn lines shard.old shard.new turn) }
+    ensures err { OnErr result (shard.new ≡ shard.old) }
+{
+    match note(shard, refused) {
+        Ok(()) => {
+            let player = *player;
+            Ok(Turn::On { player, leaving })
+        }
+        Err(Halt::Full) => Ok(Turn::Stops { stop: Stop::Full }),
+        Err(Halt::OutOfMemory) => Err(OutOfMemory),
+    }
 }
 
 /// One turn by this move, where no command leaves.
 fn turn_by(
     shard: &mut Shard,
-    notes: &mut Vec<Note>,
     lines: &[Action],
     player: &Player,
     leaving: Option<u64>,
     made: Move,
 ) -> Result<Turn, OutOfMemory>
-    requires playing { Playing lines.now shard.old notes.old.items player.now leaving }
+    requires playing { Playing lines.now shard.old player.now leaving }
     requires closed { still_open (world_of shard.old) leaving ≡ None }
     requires met { NextIsMet shard.old.config (world_of shard.old) }
     requires made { made ≡ plain_move shard.old.config (world_of shard.old) lines.now player.now }
-    ensures turn { IfOk result (λ turn. IsTurn lines.now shard.old notes.old.items shard.new notes.new.items turn) }
+    ensures turn { IfOk result (λ turn. IsTurn lines.now shard.old shard.new turn) }
     ensures err { OnErr result (shard.new ≡ shard.old) }
-    ensures cut { OnErr result (IsCut lines.now shard.new notes.new.items) }
+    ensures cut { OnErr result (IsCut lines.now shard.new) }
 {
     match made {
         Move::Over => Ok(Turn::Stops { stop: Stop::Over }),
@@ -227,13 +256,7 @@ fn turn_by(
         Move::Notes {
             refused,
             player: next,
-        } => {
-            note(shard, notes, refused)?;
-            Ok(Turn::On {
-                player: next,
-                leaving,
-            })
-        }
+        } => note_or_stop(shard, &refused, &next, leaving),
         Move::Makes {
             event,
             player: next,
@@ -260,19 +283,18 @@ fn next_move(shard: &Shard, lines: &[Action], player: &Player) -> Result<Move, W
 /// One turn, where no command leaves.
 fn plain_turn(
     shard: &mut Shard,
-    notes: &mut Vec<Note>,
     lines: &[Action],
     player: &Player,
     leaving: Option<u64>,
 ) -> Result<Turn, OutOfMemory>
-    requires playing { Playing lines.now shard.old notes.old.items player.now leaving }
+    requires playing { Playing lines.now shard.old player.now leaving }
     requires closed { still_open (world_of shard.old) leaving ≡ None }
-    ensures turn { IfOk result (λ turn. IsTurn lines.now shard.old notes.old.items shard.new notes.new.items turn) }
+    ensures turn { IfOk result (λ turn. IsTurn lines.now shard.old shard.new turn) }
     ensures err { OnErr result (shard.new ≡ shard.old) }
-    ensures cut { OnErr result (IsCut lines.now shard.new notes.new.items) }
+    ensures cut { OnErr result (IsCut lines.now shard.new) }
 {
     match next_move(shard, lines, player) {
-        Ok(made) => turn_by(shard, notes, lines, player, leaving, made),
+        Ok(made) => turn_by(shard, lines, player, leaving, made),
         Err(wanting) => {
             let turn = leave_now(shard, wanting.command, player);
             Ok(turn)
@@ -283,35 +305,30 @@ fn plain_turn(
 /// One turn.
 fn take_turn(
     shard: &mut Shard,
-    notes: &mut Vec<Note>,
     lines: &[Action],
     player: &Player,
     leaving: Option<u64>,
 ) -> Result<Turn, OutOfMemory>
-    requires playing { Playing lines.now shard.old notes.old.items player.now leaving }
-    ensures turn { IfOk result (λ turn. IsTurn lines.now shard.old notes.old.items shard.new notes.new.items turn) }
+    requires playing { Playing lines.now shard.old player.now leaving }
+    ensures turn { IfOk result (λ turn. IsTurn lines.now shard.old shard.new turn) }
     ensures err { OnErr result (shard.new ≡ shard.old) }
-    ensures cut { OnErr result (IsCut lines.now shard.new notes.new.items) }
+    ensures cut { OnErr result (IsCut lines.now shard.new) }
 {
     match still_open(shard, leaving) {
         Some(command) => {
             let turn = leave(shard, command, player);
             Ok(turn)
         }
-        None => plain_turn(shard, notes, lines, player, leaving),
+        None => plain_turn(shard, lines, player, leaving),
     }
 }
 
 /// Plays the lines, one event or one note a turn.
-fn play_lines(
-    shard: &mut Shard,
-    notes: &mut Vec<Note>,
-    lines: &[Action],
-) -> Result<Stop, OutOfMemory>
+fn play_lines(shard: &mut Shard, lines: &[Action]) -> Result<Stop, OutOfMemory>
     requires opening { shard.old.steps ≡ [] }
-    requires unnoted { notes.old.items ≡ [] }
-    ensures ok { IfOk result (λ stop. IsStopped lines.now shard.new notes.new.items stop) }
-    ensures cut { OnErr result (IsCut lines.now shard.new notes.new.items) }
+    requires unnoted { shard.old.notes ≡ [] }
+    ensures ok { IfOk result (λ stop. IsStopped lines.now shard.new stop) }
+    ensures cut { OnErr result (IsCut lines.now shard.new) }
     ensures config { shard.new.config ≡ shard.old.config }
 {
     // The proof's generator wants the type inside a player named here.
@@ -319,7 +336,7 @@ fn play_lines(
     let mut player = first_player();
     let mut leaving = None;
     loop {
-        match take_turn(shard, notes, lines, &player, leaving)? {
+        match take_turn(shard, lines, &player, leaving)? {
             Turn::On {
                 player: next,
                 leaving: command,
@@ -335,12 +352,11 @@ fn play_lines(
 /// Plays a script, adds a note for each line that is refused, and says why it stops. Where a command runs out of memory it leaves, and the
 /// script goes on. Only where memory runs out in what no command makes is that the result; what was made is then a front of what the
 /// script plays.
-pub fn play(shard: &mut Shard, notes: &mut Vec<Note>, script: &Script) -> Result<Stop, OutOfMemory>
-    requires opening { shard.old ≡ record { config = config_of script.now; steps = [] } }
-    requires unnoted { notes.old.items ≡ [] }
+pub fn play(shard: &mut Shard, script: &Script) -> Result<Stop, OutOfMemory>
+    requires opening { shard.old ≡ record { config = config_of script.now; steps = []; notes = [] } }
     ensures config { shard.new.config ≡ config_of script.now }
-    ensures ok { IfOk result (λ stop. HasRun script.now shard.new.steps notes.new.items stop) }
-    ensures cut { OnErr result (WasCutOff script.now shard.new.steps notes.new.items) }
+    ensures ok { IfOk result (λ stop. HasRun script.now shard.new.steps shard.new.notes stop) }
+    ensures cut { OnErr result (WasCutOff script.now shard.new.steps shard.new.notes) }
 {
-    play_lines(shard, notes, script.actions.as_slice())
+    play_lines(shard, script.actions.as_slice())
 }

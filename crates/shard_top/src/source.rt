@@ -1,7 +1,7 @@
 ghost use Rattle.std.specs.Prelude.{◌≡◌, ◌≤◌, ◌<◌, ℕ, ◌-◌, ◌^◌, List, [], length, drop, Some, IfOk, OnOk, OnErr, IsErrOf};
 ghost use Rattle.std.specs.declared.option.Option.{Option};
 ghost use Rattle.std.specs.Io.{ReadsAtMost};
-ghost use Rattle.std.specs.Io.KnownBytes.{Consumes, ReadConsumes};
+ghost use Rattle.std.specs.Io.KnownBytes.{Consumes, ReadConsumes, IsAtEnd};
 ghost use Rattle.shard_base.specs.Faults.{HasCause, Rose};
 ghost use Rattle.shard_top.specs.Streams.{WasRead, Reads, ConsumesFront};
 
@@ -65,6 +65,7 @@ pub fn read_all<S: Source>(alloc: Global, source: &mut S) -> Result<Vec<u8>, Rea
     ensures bytes { IfOk result (λ text. WasRead (S.left source.old) text.items) }
     ensures taken { IfOk result (λ text. Consumes (S.left source.old) (S.left source.new) text.items) }
     ensures size { IfOk result (λ text. length text.items ≤ 65537) }
+    ensures ended { IfOk result (λ text. length text.items ≤ 65536 → IsAtEnd (S.left source.new)) }
     ensures lost { OnErr result (ConsumesFront (S.left source.old) (S.left source.new)) }
 
     // The count of faults rises only where the source failed.

@@ -7,9 +7,9 @@ ghost use Rattle.shard_top.specs.declared.player.Stop.TheVariants as stops;
 use crate::player::Stop;
 use itoa::Buffer;
 use shard_base::OutOfMemory;
-use shard_calls::Step;
+use shard_calls::{Note, Step};
 use std::alloc::Global;
-use vtctld_text::{Note, has_refusal_with, text_with};
+use vtctld_text::{has_refusal_with, text_with};
 
 /// Appends the decimal digits.
 fn write_number(number: u64, into: &mut Vec<u8>) -> Result<(), OutOfMemory>

@@ -1,5 +1,5 @@
-ghost use Rattle.std.specs.Prelude.{◌≡◌, ◌≢◌, ◌≤◌, ◌<◌, ◌++◌, [], List, ℕ, map, IsOkAnd, IsSome, MatchResult};
-ghost use Rattle.std.specs.Io.KnownBytes.{Appends};
+ghost use Rattle.std.specs.Prelude.{◌≡◌, ◌≢◌, ◌≤◌, ◌<◌, ◌++◌, [], List, ℕ, map, IsOkAnd, IsSome, MatchResult, length};
+ghost use Rattle.std.specs.Io.KnownBytes.{Appends, IsAtEnd};
 ghost use Rattle.shard_base.specs.Faults.{Rose, Calm};
 ghost use Rattle.shard_calls.specs.World.{Config};
 ghost use Rattle.shard_script.specs.Script.{Fits, reading};
@@ -21,31 +21,28 @@ use shard_calls::History;
 use shard_core::Shard;
 use shard_script::{Script, ScriptFault, read_text};
 use std::alloc::Global;
-use vtctld_text::Note;
 
 /// How the program ended, and the history that it kept.
 #[derive(Drop)]
 pub struct Outcome {
     /// The exit status: 0 where all went well; 1 where a command that ended was refused; 2 for words, 3 for a script without a
     /// reading; 4 where the source failed, 5 where the sink failed; 6 for want of memory; 7 where a command that was to go on until it
-    /// ends had nothing to do; 8 where a further event would be more than a history has.
+    /// ends had nothing to do; 8 where a further event or note would be more than a history has.
     pub status: u8,
     pub history: History,
-    /// The lines that were refused.
-    pub notes: Vec<Note>,
 }
 
 fn ended(alloc: Global, status: u8) -> Outcome
     ensures status { result.status ≡ status }
     ensures empty { result.history.steps.items ≡ [] }
-    ensures unnoted { result.notes.items ≡ [] }
+    ensures unnoted { result.history.notes.items ≡ [] }
 {
     Outcome {
         status,
         history: History {
             steps: Vec::new(alloc),
+            notes: Vec::new(alloc),
         },
-        notes: Vec::new(alloc),
     }
 }
 
@@ -72,39 +69,29 @@ fn say<O: Sink>(sink: &mut O, text: Result<Vec<u8>, OutOfMemory>, status: u8) ->
 }
 
 /// Writes the answers of a history with its notes, and why its run stopped.
-fn tell<O: Sink>(
-    alloc: Global,
-    history: History,
-    notes: Vec<Note>,
-    stop: &Stop,
-    output: &mut O,
-) -> Outcome
-    requires { AreInPlace history.steps.items notes.items }
+fn tell<O: Sink>(alloc: Global, history: History, stop: &Stop, output: &mut O) -> Outcome
+    requires { AreInPlace history.steps.items history.notes.items }
     ensures kept { result.history.steps.items ≡ history.steps.items }
-    ensures kept_notes { result.notes.items ≡ notes.items }
+    ensures kept_notes { result.history.notes.items ≡ history.notes.items }
     ensures said { Calm (O.faults output.old) (O.faults output.new) → result.status ≢ 6
-        → (result.status ≡ status_of stop.now history.steps.items notes.items)
-        × Appends (O.taken output.old) (O.taken output.new) (text_with history.steps.items notes.items ++ stop_text stop.now) }
-    ensures part { AppendsFront (O.taken output.old) (O.taken output.new) (text_with history.steps.items notes.items ++ stop_text stop.now) }
+        → (result.status ≡ status_of stop.now history.steps.items history.notes.items)
+        × Appends (O.taken output.old) (O.taken output.new) (text_with history.steps.items history.notes.items ++ stop_text stop.now) }
+    ensures part { AppendsFront (O.taken output.old) (O.taken output.new) (text_with history.steps.items history.notes.items ++ stop_text stop.now) }
     ensures cause { result.status ≡ 5 → Rose (O.faults output.old) (O.faults output.new) }
     ensures failed { O.faults output.old < O.faults output.new → result.status ≡ 5 }
     ensures not_read { result.status ≢ 4 }
 {
-    let done = status_of(stop, &history.steps, &notes);
-    let text = run_text(alloc, &history.steps, &notes, stop);
+    let done = status_of(stop, &history.steps, &history.notes);
+    let text = run_text(alloc, &history.steps, &history.notes, stop);
     let status = say(output, text, done);
-    Outcome {
-        status,
-        history,
-        notes,
-    }
+    Outcome { status, history }
 }
 
 /// Plays a script, and writes what comes of it.
 fn run_script<O: Sink>(alloc: Global, script: &Script, output: &mut O) -> Outcome
     requires { Fits script.now }
     ensures answers { (a : Answer) × IsAnswerOf script.now a
-        × Answers a (Calm (O.faults output.old) (O.faults output.new)) result.status result.history.steps.items result.notes.items (O.taken output.old) (O.taken output.new) }
+        × Answers a (Calm (O.faults output.old) (O.faults output.new)) result.status result.history.steps.items result.history.notes.items (O.taken output.old) (O.taken output.new) }
     ensures cause { result.status ≡ 5 → Rose (O.faults output.old) (O.faults output.new) }
     ensures failed { O.faults output.old < O.faults output.new → result.status ≡ 5 }
     ensures not_read { result.status ≢ 4 }
@@ -114,20 +101,19 @@ fn run_script<O: Sink>(alloc: Global, script: &Script, output: &mut O) -> Outcom
         Ok(shard) => shard,
         Err(_) => return ended(alloc, 6),
     };
-    let mut notes = Vec::new(alloc);
-    match play(&mut shard, &mut notes, script) {
-        Ok(stop) => tell(alloc, shard.into_history(), notes, &stop, output),
+    match play(&mut shard, script) {
+        Ok(stop) => tell(alloc, shard.into_history(), &stop, output),
         Err(OutOfMemory) => Outcome {
             status: 6,
             history: shard.into_history(),
-            notes,
         },
     }
 }
 
 fn run_reading<O: Sink>(alloc: Global, text: &[u8], output: &mut O) -> Outcome
+    ensures within { result.status ≤ 1 → length text.now ≤ 65536 }
     ensures answers { (a : Answer) × IsAnswerToReading (reading text.now) a
-        × Answers a (Calm (O.faults output.old) (O.faults output.new)) result.status result.history.steps.items result.notes.items (O.taken output.old) (O.taken output.new) }
+        × Answers a (Calm (O.faults output.old) (O.faults output.new)) result.status result.history.steps.items result.history.notes.items (O.taken output.old) (O.taken output.new) }
     ensures cause { result.status ≡ 5 → Rose (O.faults output.old) (O.faults output.new) }
     ensures failed { O.faults output.old < O.faults output.new → result.status ≡ 5 }
     ensures not_read { result.status ≢ 4 }
@@ -149,19 +135,26 @@ pub fn step_words<I: Source, O: Sink>(
     input: &mut I,
     output: &mut O,
 ) -> Outcome
-    // Where the source did not fail, the answer is one to the words and the text that it gave.
+    // Where the source did not fail, the answer is one to the words and the text that it gave. Words without a reading leave it as it is, and
+    // a script that was played was read to its end.
     ensures answered { Calm (I.faults input.old) (I.faults input.new) → (text : List ℕ) × WasRead (I.left input.old) text
         × ((a : Answer) × IsAnswerTo (map (λ w. w.items) words.now.items) text a
-        × Answers a (Calm (O.faults output.old) (O.faults output.new)) result.status result.history.steps.items result.notes.items (O.taken output.old) (O.taken output.new)) }
+        × Answers a (Calm (O.faults output.old) (O.faults output.new)) result.status result.history.steps.items result.history.notes.items (O.taken output.old) (O.taken output.new)) }
     ensures unread { IsSome (usage_fault (map (λ w. w.items) words.now.items)) → I.left input.new ≡ I.left input.old }
+    ensures uncounted { IsSome (usage_fault (map (λ w. w.items) words.now.items)) → I.faults input.new ≡ I.faults input.old }
+    ensures ended { result.status ≤ 1 → IsAtEnd (I.left input.new) }
 
-    // A stream that failed is told by the status, which a stream that did not fail never gives.
+    // A stream that failed is told by the status, which a stream that did not fail never gives. Where the source failed nothing was played,
+    // and no more was written than that.
     ensures source_failed { I.faults input.old < I.faults input.new → (4 ≤ result.status) × (result.status ≤ 6) }
+    ensures failed_said { I.faults input.old < I.faults input.new → AppendsFront (O.taken output.old) (O.taken output.new) read_fault_text }
+    ensures failed_kept { I.faults input.old < I.faults input.new → result.history.steps.items ≡ [] }
+    ensures failed_noted { I.faults input.old < I.faults input.new → result.history.notes.items ≡ [] }
     ensures sink_failed { O.faults output.old < O.faults output.new → result.status ≡ 5 }
     ensures read { result.status ≡ 4 → Rose (I.faults input.old) (I.faults input.new) }
     ensures read_said { result.status ≡ 4 → Appends (O.taken output.old) (O.taken output.new) read_fault_text }
     ensures read_kept { result.status ≡ 4 → result.history.steps.items ≡ [] }
-    ensures read_noted { result.status ≡ 4 → result.notes.items ≡ [] }
+    ensures read_noted { result.status ≡ 4 → result.history.notes.items ≡ [] }
     ensures write { result.status ≡ 5 → Rose (O.faults output.old) (O.faults output.new) }
 
     // Whatever the streams did, the history is a run of the machine.
@@ -188,19 +181,26 @@ pub fn vtshard_words<I: Source, O: Sink>(
     input: &mut I,
     output: &mut O,
 ) -> Outcome
-    // Where the source did not fail, the answer is one to the words and the text that it gave.
+    // Where the source did not fail, the answer is one to the words and the text that it gave. Words without a reading leave it as it is, and
+    // a script that was played was read to its end.
     ensures answered { Calm (I.faults input.old) (I.faults input.new) → (text : List ℕ) × WasRead (I.left input.old) text
         × ((a : Answer) × IsAnswerTo (map (λ w. w.items) words.now.items) text a
-        × Answers a (Calm (O.faults output.old) (O.faults output.new)) result.status result.history.steps.items result.notes.items (O.taken output.old) (O.taken output.new)) }
+        × Answers a (Calm (O.faults output.old) (O.faults output.new)) result.status result.history.steps.items result.history.notes.items (O.taken output.old) (O.taken output.new)) }
     ensures unread { IsSome (usage_fault (map (λ w. w.items) words.now.items)) → I.left input.new ≡ I.left input.old }
+    ensures uncounted { IsSome (usage_fault (map (λ w. w.items) words.now.items)) → I.faults input.new ≡ I.faults input.old }
+    ensures ended { result.status ≤ 1 → IsAtEnd (I.left input.new) }
 
-    // A stream that failed is told by the status, which a stream that did not fail never gives.
+    // A stream that failed is told by the status, which a stream that did not fail never gives. Where the source failed nothing was played,
+    // and no more was written than that.
     ensures source_failed { I.faults input.old < I.faults input.new → (4 ≤ result.status) × (result.status ≤ 6) }
+    ensures failed_said { I.faults input.old < I.faults input.new → AppendsFront (O.taken output.old) (O.taken output.new) read_fault_text }
+    ensures failed_kept { I.faults input.old < I.faults input.new → result.history.steps.items ≡ [] }
+    ensures failed_noted { I.faults input.old < I.faults input.new → result.history.notes.items ≡ [] }
     ensures sink_failed { O.faults output.old < O.faults output.new → result.status ≡ 5 }
     ensures read { result.status ≡ 4 → Rose (I.faults input.old) (I.faults input.new) }
     ensures read_said { result.status ≡ 4 → Appends (O.taken output.old) (O.taken output.new) read_fault_text }
     ensures read_kept { result.status ≡ 4 → result.history.steps.items ≡ [] }
-    ensures read_noted { result.status ≡ 4 → result.notes.items ≡ [] }
+    ensures read_noted { result.status ≡ 4 → result.history.notes.items ≡ [] }
     ensures write { result.status ≡ 5 → Rose (O.faults output.old) (O.faults output.new) }
 
     // Whatever the streams did, the history is a run of the machine.

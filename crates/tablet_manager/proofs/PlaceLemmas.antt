@@ -9,7 +9,7 @@ use Rattle.gtid_sets.specs.declared.gtid.Gtid.{Gtid}
 use Rattle.gtid_sets.specs.declared.entry.Entry.{Entry}
 use Rattle.gtid_sets.specs.declared.entry.Kind.{Kind}
 use Rattle.gtid_sets.specs.declared.entry.Kind.TheVariants as kind
-use Rattle.shard_calls.specs.Logs.{row_or_zero, row_term, is_row_of, newest_row, place_of_row}
+use Rattle.gtid_sets.specs.Logs.{row_or_zero, row_term, is_row_of, newest_row, place_of_row}
 use Rattle.shard_calls.proofs.LogLemmas.{newest-push}
 use Rattle.tablet_manager.specs.Rows.{place_after}
 use Rattle.tablet_manager.proofs.RowLemmas.{not_row}

@@ -8,7 +8,7 @@ use Rattle.gtid_sets.specs.declared.gtid.Gtid.{Gtid}
 use Rattle.gtid_sets.specs.declared.entry.Entry.{Entry}
 use Rattle.gtid_sets.specs.declared.entry.Kind.{Kind}
 use Rattle.gtid_sets.specs.declared.entry.Kind.TheVariants as kind
-use Rattle.shard_calls.specs.Logs.{row_term, before_rows, rows_of, row_or_zero, is_row_of, has_row, newest_row, is_own_row, is_named, newest_row_names}
+use Rattle.gtid_sets.specs.Logs.{row_term, before_rows, rows_of, row_or_zero, is_row_of, has_row, newest_row, is_own_row, is_named, newest_row_names}
 use Rattle.shard_calls.proofs.LogLemmas.{newest-push, any-push}
 use Rattle.tablet_manager.specs.Managed.{names_after}
 

@@ -3,7 +3,7 @@
 use Rattle.std.specs.Prelude.{◌≡◌, Some}
 use Rattle.shard_names.specs.Tablets.{AreTablets, tablet_of}
 use Rattle.replication.specs.Acks.{aliases_of}
-use Rattle.shard_calls.specs.Logs.{greatest_number, newest_row_names}
+use Rattle.gtid_sets.specs.Logs.{greatest_number, newest_row_names}
 use Rattle.tablet_manager.specs.Managed.{Managed}
 use Rattle.tablet_manager.specs.declared.manager.Manager.TheInside.{Inside}
 

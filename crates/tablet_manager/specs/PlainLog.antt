@@ -1,6 +1,6 @@
 -- What a plain log keeps beside its entries: their position, the terms of the rows, and the greatest of them with its index.
 use Rattle.std.specs.Prelude.{◌≡◌}
-use Rattle.shard_calls.specs.Logs.{position_of, newest_row, place_of_row, rows_of}
+use Rattle.gtid_sets.specs.Logs.{position_of, newest_row, place_of_row, rows_of}
 use Rattle.tablet_manager.specs.LogState.{LogState}
 use Rattle.tablet_manager.specs.declared.plain_log.PlainLog.TheInside.{Inside}
 

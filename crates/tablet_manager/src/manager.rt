@@ -1,4 +1,4 @@
-ghost use Rattle.std.specs.Prelude.{◌≡◌, ℕ, ◌≤◌, ◌<◌, ◌+◌, ◌-◌, ◌^◌, [], ◌∷◌, ◌++◌, Bool, true, false, OnOk, OnErr, IfOk, Ok, Contains, nat_lt};
+ghost use Rattle.std.specs.Prelude.{◌≡◌, ℕ, ◌≤◌, ◌<◌, ◌+◌, ◌-◌, ◌^◌, ◌&&◌, ◌==◌, [], ◌∷◌, ◌++◌, Bool, true, false, OnOk, OnErr, IfOk, Ok, Contains, nat_lt};
 ghost use Rattle.shard_names.specs.Tablets.{AreTablets, alias_eq, is_among};
 ghost use Rattle.durability.specs.Policies.{rules_of};
 ghost use Rattle.durability.specs.Sets.{is_accepted};
@@ -7,8 +7,8 @@ ghost use Rattle.replication.specs.Told.{holders};
 ghost use Rattle.gtid_sets.specs.declared.entry.Kind.TheVariants as kinds;
 ghost use Rattle.shard_calls.specs.declared.call.Call.TheVariants as calls;
 ghost use Rattle.shard_calls.specs.declared.answer.Answer.TheVariants as answers;
-ghost use Rattle.shard_calls.specs.Logs.{position_of, own_number, greatest_number, next_gtid, with_entry, with_own};
-ghost use Rattle.shard_calls.specs.Stands.{is_down};
+ghost use Rattle.gtid_sets.specs.Logs.{position_of, own_number, greatest_number, next_gtid, with_entry, with_own};
+ghost use Rattle.shard_calls.specs.Stands.{is_down, is_stopped};
 ghost use Rattle.shard_calls.specs.Tablets.{opened, kept_or_promoted, answer_to, after_call, status_of, accepts, after_ack, is_told, is_row_told, writes, writes_own, writes_local, after_crash, restarts, with_row};
 ghost use Rattle.tablet_manager.specs.Managed.{Managed, state_of, with_log, ackers_of, SameTablet, names_after};
 
@@ -388,6 +388,62 @@ impl Manager {
             next: 1,
         };
         Ok(Answer::Joined)
+    }
+
+    /// Whether the term has stopped the tablet, which has done nothing since.
+    fn is_stopped_by(&self, term: u64) -> bool
+        ensures { result ≡ (is_stopped self.now.stand && (self.now.log.promised == term)) }
+    {
+        match &self.stand {
+            Stand::Stopped => self.log.promised() == term,
+            _ => false,
+        }
+    }
+
+    /// Sends its log to replicas of the term from now on, if the term has stopped it. It takes no memory.
+    pub fn feed(&mut self, term: u64) -> Result<Answer, OutOfMemory>
+        requires up { is_down self.old.stand ≡ false }
+        ensures answer { IfOk result (λ answer. answer ≡ answer_to self.old.group self.old.me term calls.Feed (state_of self.old)) }
+        ensures state { OnOk result (state_of self.new ≡ after_call self.old.group self.old.me term calls.Feed (state_of self.old)) }
+        ensures who { SameTablet self.old self.new }
+        ensures err { OnErr result (self.new ≡ self.old) }
+    {
+        if self.is_stale(term) {
+            return Ok(Answer::StaleTerm {
+                seen: self.log.seen(),
+            });
+        }
+        self.log.see(term);
+        if self.stand.is_feeder_in(term) {
+            return Ok(Answer::Feeding);
+        }
+        if !self.is_stopped_by(term) {
+            return Ok(Answer::Kept { stand: self.stand });
+        }
+        self.stand = Stand::Feeder { term };
+        Ok(Answer::Feeding)
+    }
+
+    /// Tells whether the log covers the position, whatever the moment until which the caller waits. Only what the log lacks takes memory.
+    pub fn wait_for(&mut self, term: u64, position: &GtidSet) -> Result<Answer, OutOfMemory>
+        requires up { is_down self.old.stand ≡ false }
+        ensures answer { (until : ℕ) → IfOk result (λ answer. answer ≡ answer_to self.old.group self.old.me term (calls.WaitFor position.now until) (state_of self.old)) }
+        ensures state { (until : ℕ) → OnOk result (state_of self.new ≡ after_call self.old.group self.old.me term (calls.WaitFor position.now until) (state_of self.old)) }
+        ensures who { SameTablet self.old self.new }
+        ensures err { OnErr result (self.new ≡ self.old) }
+    {
+        if self.is_stale(term) {
+            return Ok(Answer::StaleTerm {
+                seen: self.log.seen(),
+            });
+        }
+        if covers(self.log.held(), position) {
+            self.log.see(term);
+            return Ok(Answer::Holds);
+        }
+        let missing = self.log.missing_of(position)?;
+        self.log.see(term);
+        Ok(Answer::NotCaughtUp { missing })
     }
 
     /// Tells whether the row of the term counts as committed, whatever the moment until which the caller waits.

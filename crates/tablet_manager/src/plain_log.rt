@@ -1,6 +1,6 @@
 ghost use Rattle.std.specs.Prelude.{◌≡◌, ◌<◌, ◌-◌, ◌^◌, [], ◌∷◌, ◌++◌, nat_eq, position, vec_len, vec_capacity, OnOk, OnErr, IfOk};
 ghost use Rattle.gtid_sets.specs.Position.{with_gtid, minus};
-ghost use Rattle.shard_calls.specs.Logs.{position_of, holds, newest_row, row_or_zero, is_row_of, has_row, rows_of, place_of_row};
+ghost use Rattle.gtid_sets.specs.Logs.{position_of, holds, newest_row, row_or_zero, is_row_of, has_row, rows_of, place_of_row};
 ghost use Rattle.std.specs.List.{list_any};
 ghost use Rattle.tablet_manager.specs.Rows.{place_after};
 

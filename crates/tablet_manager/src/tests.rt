@@ -243,6 +243,56 @@ fn tells_what_is_committed(rt: HostRuntime) -> Result<(), Fail> {
     Ok(())
 }
 
+fn feed(rt: &impl Abort, manager: &mut Manager, term: u64) -> Result<Answer, OutOfMemory> {
+    assert!(rt; !manager.stand().is_down());
+    manager.feed(term)
+}
+
+fn is_feeding(answer: &Answer) -> bool {
+    match answer {
+        Answer::Feeding => true,
+        _ => false,
+    }
+}
+
+#[test]
+fn feeds_once_stopped(rt: HostRuntime) -> Result<(), Fail> {
+    let alloc = rt.alloc();
+    let tablets = [tablet(&rt, b"zone1-100", 0), tablet(&rt, b"zone1-101", 1)];
+    let mut source = manager(&rt, alloc, &tablets, 1)?;
+    stop(&rt, &mut source, 2)?;
+    assert!(rt; is_feeding(&feed(&rt, &mut source, 2)?));
+    assert_eq!(rt; *source.stand(), Stand::Feeder { term: 2 });
+    Ok(())
+}
+
+fn wait_for(
+    rt: &impl Abort,
+    manager: &mut Manager,
+    term: u64,
+    position: &GtidSet,
+) -> Result<Answer, OutOfMemory> {
+    assert!(rt; !manager.stand().is_down());
+    manager.wait_for(term, position)
+}
+
+fn is_held(answer: &Answer) -> bool {
+    match answer {
+        Answer::Holds => true,
+        _ => false,
+    }
+}
+
+#[test]
+fn tells_what_it_holds(rt: HostRuntime) -> Result<(), Fail> {
+    let alloc = rt.alloc();
+    let tablets = [tablet(&rt, b"zone1-100", 0), tablet(&rt, b"zone1-101", 1)];
+    let mut primary = primary(&rt, alloc, &tablets)?;
+    let answer = wait_for(&rt, &mut primary, 1, &first_only(alloc)?)?;
+    assert!(rt; is_held(&answer));
+    Ok(())
+}
+
 /// The first of the tablets, under semi-synchronous replication, as the primary of the term 1.
 fn semi_sync(rt: &impl Abort, alloc: Global, tablets: &[Tablet]) -> Result<Manager, OutOfMemory> {
     let mut primary = manager_under(rt, alloc, tablets, Durability::SemiSync, 0)?;

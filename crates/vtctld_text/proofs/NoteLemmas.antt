@@ -10,7 +10,7 @@ use Rattle.std.proofs.lemmas.List.FromFn.{length-enumerate_from, get_or-enumerat
 use Rattle.std.proofs.lemmas.List.Sorted.{IsNonDecreasingBy-push}
 use Rattle.shard_calls.specs.declared.event.Step.{Step}
 use Rattle.vtctld_text.specs.declared.begun.Begun.{Begun}
-use Rattle.vtctld_text.specs.declared.note.Note.{Note}
+use Rattle.shard_calls.specs.declared.event.Note.{Note}
 use Rattle.vtctld_text.specs.Texts.{commands_of, event_text}
 use Rattle.vtctld_text.specs.Notes.{notes_at, note_lines, noted_text, count_before, AreInPlace, WithoutNotesIsTextOf, EachNoteIsPrintedOnce}
 

@@ -5,15 +5,15 @@ use Rattle.std.specs.List.{flat_map, enumerate_from}
 use Rattle.std.specs.List.Sorted.{IsNonDecreasingBy}
 use Rattle.shard_names.specs.Alias.{alias_text}
 use Rattle.shard_names.specs.declared.alias.Alias.{Alias}
+use Rattle.shard_calls.specs.declared.event.Note.{Note}
 use Rattle.shard_calls.specs.declared.event.Step.{Step}
 use Rattle.vtctld_text.specs.declared.begun.Begun.{Begun}
-use Rattle.vtctld_text.specs.declared.note.Note.{Note}
 use Rattle.vtctld_text.specs.declared.note.RefusedAction.{RefusedAction}
 use Rattle.vtctld_text.specs.declared.note.RefusedAction.TheVariants.{NoMessage, NotDeliverable, IsUp, IsDown}
 use Rattle.vtctld_text.specs.Stands.{line}
 use Rattle.vtctld_text.specs.Texts.{commands_of, event_text, text_of, has_refusal}
 
--- ---- one note
+-- ---- one action that was refused
 
 unfoldable pub no_message_text : ℕ → List ℕ
 no_message_text k = codes "lose: no message " ++ decimal k
@@ -27,15 +27,12 @@ is_up_text a = codes "restart: " ++ alias_text a ++ codes " is up"
 unfoldable pub is_down_text : Alias → List ℕ
 is_down_text a = codes "local: " ++ alias_text a ++ codes " is down"
 
+-- an action is no command: its line carries no actor's name
 abbrev pub action_text : RefusedAction → List ℕ
 action_text (NoMessage k) = no_message_text k
 action_text (NotDeliverable k) = not_deliverable_text k
 action_text (IsUp a) = is_up_text a
 action_text (IsDown a) = is_down_text a
-
--- an action is no command: its line carries no actor's name
-abbrev pub note_text : Note → List ℕ
-note_text n = action_text n.action
 
 -- ---- the notes of a history
 
@@ -45,7 +42,7 @@ notes_at notes place = filter (λ n. n.place == place) notes
 
 -- a line for each of these notes
 abbrev pub note_lines : List Note → List ℕ
-note_lines notes = flat_map (λ n. line (note_text n)) notes
+note_lines notes = flat_map (λ n. line n.line) notes
 
 -- The text of a step, and the lines of the notes right behind it. The number is that of the steps up to it and with it.
 abbrev pub noted_text : List Begun → List Note → ℕ × Step → List ℕ

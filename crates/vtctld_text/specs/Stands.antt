@@ -6,9 +6,9 @@ use Rattle.shard_names.specs.Alias.{alias_text}
 use Rattle.shard_names.specs.declared.alias.Alias.{Alias}
 use Rattle.gtid_sets.specs.Position.{Position}
 use Rattle.gtid_sets.specs.SetText.{set_text}
-use Rattle.shard_calls.specs.declared.command.Left.{Left}
-use Rattle.shard_calls.specs.declared.command.Left.TheVariants as lefts
-use Rattle.shard_calls.specs.declared.command.NotJoined.{NotJoined}
+use Rattle.shard_calls.specs.declared.ending.Left.{Left}
+use Rattle.shard_calls.specs.declared.ending.Left.TheVariants as lefts
+use Rattle.shard_calls.specs.declared.ending.NotJoined.{NotJoined}
 use Rattle.shard_calls.specs.declared.stand.Standing.{Standing}
 use Rattle.shard_calls.specs.declared.stand.Standing.TheVariants as standings
 use Rattle.shard_calls.specs.declared.why.Why.{Why}
@@ -37,12 +37,16 @@ in_term_text a term = alias_text a ++ codes " in term " ++ decimal term
 unfoldable pub replica_text : Alias → ℕ → List ℕ
 replica_text source term = codes "replica of " ++ in_term_text source term
 
+unfoldable pub feeder_text : ℕ → List ℕ
+feeder_text term = codes "feeder in term " ++ decimal term
+
 abbrev pub standing_text : Standing → List ℕ
 standing_text standings.Down = codes "down"
 standing_text standings.Stopped = codes "stopped"
 standing_text (standings.Primary term) = primary_text term
 standing_text (standings.Demoted term by) = demoted_text term by
 standing_text (standings.Replica source term) = replica_text source term
+standing_text (standings.Feeder term) = feeder_text term
 
 -- how a tablet stands
 unfoldable pub stands_text : Alias → Standing → List ℕ

@@ -1,21 +1,23 @@
 -- What is printed of a history: the answer of each command that ended. A command is named as for vtctldclient (Vitess manual), and a
 -- transaction is printed as MySQL prints a GTID (MySQL 8.0 manual); the texts of the answers are vtshard's own.
 use Rattle.std.specs.Prelude.{ℕ, List, [], ◌∷◌, ◌++◌, Bool, true, false, Option, Some, None, if◌then◌else◌, codes}
+use Rattle.std.specs.Fmt.{decimal}
 use Rattle.std.specs.List.{flat_map, list_any}
 use Rattle.std.specs.Str.{bytes_eq}
 use Rattle.shard_names.specs.Alias.{alias_text}
 use Rattle.shard_names.specs.declared.alias.Alias.{Alias}
 use Rattle.shard_names.specs.ShardName.{shard_name_text}
+use Rattle.shard_names.specs.declared.shard_name.ShardName.{ShardName}
 use Rattle.gtid_sets.specs.Gtid.{gtid_text}
 use Rattle.gtid_sets.specs.Position.{Position}
 use Rattle.gtid_sets.specs.SetText.{position_text}
 use Rattle.gtid_sets.specs.declared.gtid.Gtid.{Gtid}
 use Rattle.shard_calls.specs.declared.command.Command.{Command}
-use Rattle.shard_calls.specs.declared.command.Command.TheVariants.{Planned, Write, Show}
-use Rattle.shard_calls.specs.declared.command.CommandAnswer.{CommandAnswer}
-use Rattle.shard_calls.specs.declared.command.CommandAnswer.TheVariants as answers
-use Rattle.shard_calls.specs.declared.command.NotJoined.{NotJoined}
-use Rattle.shard_calls.specs.declared.command.Refusal.{Refusal}
+use Rattle.shard_calls.specs.declared.command.Command.TheVariants.{Planned, External, Write, Show}
+use Rattle.shard_calls.specs.declared.ending.CommandAnswer.{CommandAnswer}
+use Rattle.shard_calls.specs.declared.ending.CommandAnswer.TheVariants as answers
+use Rattle.shard_calls.specs.declared.ending.NotJoined.{NotJoined}
+use Rattle.shard_calls.specs.declared.refusal.Refusal.{Refusal}
 use Rattle.shard_calls.specs.declared.event.Event.{Event}
 use Rattle.shard_calls.specs.declared.event.Event.TheVariants as events
 use Rattle.shard_calls.specs.declared.event.Step.{Step}
@@ -23,7 +25,7 @@ use Rattle.shard_calls.specs.declared.stand.Standing.{Standing}
 use Rattle.shard_calls.specs.World.{main_name, numbered}
 use Rattle.vtctld_text.specs.declared.begun.Begun.{Begun}
 use Rattle.vtctld_text.specs.Stands.{line, in_term_text, stands_text, standing_text, not_joined_text}
-use Rattle.vtctld_text.specs.Refusals.{refusal_text}
+use Rattle.vtctld_text.specs.Refusals.{refusal_text, is_out_of_memory}
 
 -- ---- commands
 
@@ -31,11 +33,21 @@ use Rattle.vtctld_text.specs.Refusals.{refusal_text}
 unfoldable pub prefix_text : List ℕ → List ℕ
 prefix_text actor = if bytes_eq actor main_name then [] else codes "[" ++ actor ++ codes "] "
 
--- the command's word, and the shard or the tablet that it was given
-unfoldable pub command_text : Command → List ℕ
-command_text (Planned shard new_primary) = codes "PlannedReparentShard " ++ shard_name_text shard
+unfoldable pub planned_text : ShardName → List ℕ
+planned_text shard = codes "PlannedReparentShard " ++ shard_name_text shard
+
+unfoldable pub external_text : Alias → List ℕ
+external_text a = codes "TabletExternallyReparented " ++ alias_text a
+
+unfoldable pub show_text : Alias → List ℕ
+show_text a = codes "show " ++ alias_text a
+
+-- the command's word, and the shard or the tablet that it was given; options are left out
+abbrev pub command_text : Command → List ℕ
+command_text (Planned shard new_primary avoid expected timeout allow_cross_cell) = planned_text shard
+command_text (External a) = external_text a
 command_text (Write to) = codes "write"
-command_text (Show a) = codes "show " ++ alias_text a
+command_text (Show a) = show_text a
 
 -- what each line of an answer begins with
 abbrev pub begin_text : Option Begun → List ℕ
@@ -52,8 +64,21 @@ head_text (Some b) = prefix_text b.actor ++ command_text b.command
 unfoldable pub promoted_text : Alias → ℕ → List ℕ
 promoted_text a term = codes "promoted " ++ in_term_text a term
 
-unfoldable pub refused_text : Refusal → List ℕ
-refused_text refusal = codes "refused " ++ refusal_text refusal
+unfoldable pub nothing_to_do_text : Alias → List ℕ
+nothing_to_do_text a = codes "nothing to do, primary is " ++ alias_text a
+
+unfoldable pub recorded_text : ℕ → List ℕ
+recorded_text term = codes "recorded in term " ++ decimal term
+
+-- whether the old primary got its place back, where that was tried
+abbrev pub undo_text : Option Bool → List ℕ
+undo_text None = []
+undo_text (Some true) = codes "; undone"
+undo_text (Some false) = codes "; not undone"
+
+-- a command that runs out of memory tries nothing more, and its text says nothing of it
+unfoldable pub refused_text : Refusal → Option Bool → List ℕ
+refused_text refusal tried = codes "refused " ++ refusal_text refusal ++ (if is_out_of_memory refusal then [] else undo_text tried)
 
 -- a transaction, and where and when it was written
 unfoldable pub written_text : Gtid → Alias → ℕ → List ℕ
@@ -74,7 +99,9 @@ shown_text stand position = standing_text stand ++ codes ", position " ++ positi
 
 abbrev pub said_text : CommandAnswer → List ℕ
 said_text (answers.Promoted a term left) = promoted_text a term
-said_text (answers.Refused refusal) = refused_text refusal
+said_text (answers.NothingToDo a) = nothing_to_do_text a
+said_text (answers.Recorded term) = recorded_text term
+said_text (answers.Refused refusal tried) = refused_text refusal tried
 said_text (answers.Committed g a term) = committed_text g a term
 said_text (answers.NotPrimary a stand) = not_primary_text a stand
 said_text answers.NoPrimaryRecorded = codes "no primary recorded"
@@ -84,7 +111,9 @@ said_text (answers.Shown a stand position) = shown_text stand position
 -- the tablets that did not join a new primary
 abbrev pub left_of : CommandAnswer → List NotJoined
 left_of (answers.Promoted a term left) = left
-left_of (answers.Refused refusal) = []
+left_of (answers.NothingToDo a) = []
+left_of (answers.Recorded term) = []
+left_of (answers.Refused refusal tried) = []
 left_of (answers.Committed g a term) = []
 left_of (answers.NotPrimary a stand) = []
 left_of answers.NoPrimaryRecorded = []
@@ -160,7 +189,9 @@ text_of steps = flat_map (λ s. event_text (commands_of steps) s.event) steps
 -- Whether an answer counts as refused: a refused reparent, and a write that is not committed. What is shown never is.
 abbrev pub is_refused : CommandAnswer → Bool
 is_refused (answers.Promoted a term left) = false
-is_refused (answers.Refused refusal) = true
+is_refused (answers.NothingToDo a) = false
+is_refused (answers.Recorded term) = false
+is_refused (answers.Refused refusal tried) = true
 is_refused (answers.Committed g a term) = false
 is_refused (answers.NotPrimary a stand) = true
 is_refused answers.NoPrimaryRecorded = true

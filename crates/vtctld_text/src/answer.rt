@@ -1,17 +1,19 @@
-ghost use Rattle.std.specs.Prelude.{◌≡◌, ◌++◌, ◌∷◌, [], OnOk, Some};
+ghost use Rattle.std.specs.Prelude.{◌≡◌, ◌++◌, ◌∷◌, [], OnOk, Some, if◌then◌else◌};
 ghost use Rattle.std.specs.Option.{option_copied};
 ghost use Rattle.std.specs.Str.{bytes_eq};
 ghost use Rattle.shard_calls.specs.World.{main_name};
+ghost use Rattle.vtctld_text.specs.Refusals.{is_out_of_memory};
 ghost use Rattle.vtctld_text.specs.Stands.{line, not_joined_text};
-ghost use Rattle.vtctld_text.specs.Texts.{prefix_text, command_text, begin_text, head_text, promoted_text, refused_text, written_text, committed_text, not_primary_text, unknown_text, shown_text, said_text, left_of, first_line, left_lines, answer_text, is_refused};
+ghost use Rattle.vtctld_text.specs.Texts.{prefix_text, planned_text, external_text, show_text, command_text, begin_text, head_text, promoted_text, nothing_to_do_text, recorded_text, undo_text, refused_text, written_text, committed_text, not_primary_text, unknown_text, shown_text, said_text, left_of, first_line, left_lines, answer_text, is_refused};
 
 use crate::begun::Begun;
+use crate::number::write_number;
 use crate::refusal::write_refusal;
 use crate::stand::{write_in_term, write_not_joined, write_standing, write_stands};
 use gtid_sets::{Gtid, GtidSet, write_position};
 use shard_base::OutOfMemory;
 use shard_calls::{Command, CommandAnswer, NotJoined, Refusal, Standing};
-use shard_names::Alias;
+use shard_names::{Alias, ShardName};
 
 fn is_main(actor: &[u8]) -> bool
     ensures { result ≡ bytes_eq actor.now main_name }
@@ -33,24 +35,42 @@ fn write_prefix(actor: &[u8], into: &mut Vec<u8>) -> Result<(), OutOfMemory>
     Ok(())
 }
 
+#[tactic(auto, unfolding(crate::specs::Texts::planned_text))]
+fn write_planned(shard: &ShardName, into: &mut Vec<u8>) -> Result<(), OutOfMemory>
+    ensures { OnOk result (into.new.items ≡ into.old.items ++ planned_text shard.now) }
+{
+    into.extend_from_slice(b"PlannedReparentShard ")?;
+    shard.write(into)
+}
+
+#[tactic(auto, unfolding(crate::specs::Texts::external_text))]
+fn write_external(alias: &Alias, into: &mut Vec<u8>) -> Result<(), OutOfMemory>
+    ensures { OnOk result (into.new.items ≡ into.old.items ++ external_text alias.now) }
+{
+    into.extend_from_slice(b"TabletExternallyReparented ")?;
+    alias.write(into)
+}
+
+#[tactic(auto, unfolding(crate::specs::Texts::show_text))]
+fn write_show(alias: &Alias, into: &mut Vec<u8>) -> Result<(), OutOfMemory>
+    ensures { OnOk result (into.new.items ≡ into.old.items ++ show_text alias.now) }
+{
+    into.extend_from_slice(b"show ")?;
+    alias.write(into)
+}
+
 /// Appends the command's word, and the shard or the tablet that it was given.
-#[tactic(auto, unfolding(crate::specs::Texts::command_text))]
 fn write_command(command: &Command, into: &mut Vec<u8>) -> Result<(), OutOfMemory>
     ensures { OnOk result (into.new.items ≡ into.old.items ++ command_text command.now) }
 {
     match command {
-        Command::Planned { shard, .. } => {
-            into.extend_from_slice(b"PlannedReparentShard ")?;
-            shard.write(into)
-        }
+        Command::Planned { shard, .. } => write_planned(shard, into),
+        Command::External { alias } => write_external(alias, into),
         Command::Write { .. } => {
             into.extend_from_slice(b"write")?;
             Ok(())
         }
-        Command::Show { alias } => {
-            into.extend_from_slice(b"show ")?;
-            alias.write(into)
-        }
+        Command::Show { alias } => write_show(alias, into),
     }
 }
 
@@ -91,12 +111,59 @@ fn write_promoted(alias: &Alias, term: u64, into: &mut Vec<u8>) -> Result<(), Ou
     write_in_term(alias, term, into)
 }
 
+#[tactic(auto, unfolding(crate::specs::Texts::nothing_to_do_text))]
+fn write_nothing_to_do(alias: &Alias, into: &mut Vec<u8>) -> Result<(), OutOfMemory>
+    ensures { OnOk result (into.new.items ≡ into.old.items ++ nothing_to_do_text alias.now) }
+{
+    into.extend_from_slice(b"nothing to do, primary is ")?;
+    alias.write(into)
+}
+
+#[tactic(auto, unfolding(crate::specs::Texts::recorded_text))]
+fn write_recorded(term: u64, into: &mut Vec<u8>) -> Result<(), OutOfMemory>
+    ensures { OnOk result (into.new.items ≡ into.old.items ++ recorded_text term) }
+{
+    into.extend_from_slice(b"recorded in term ")?;
+    write_number(term, into)
+}
+
+/// Appends whether the old primary got its place back, where that was tried.
+fn write_undo(tried: Option<bool>, into: &mut Vec<u8>) -> Result<(), OutOfMemory>
+    ensures { OnOk result (into.new.items ≡ into.old.items ++ undo_text tried) }
+{
+    match tried {
+        None => Ok(()),
+        Some(true) => {
+            into.extend_from_slice(b"; undone")?;
+            Ok(())
+        }
+        Some(false) => {
+            into.extend_from_slice(b"; not undone")?;
+            Ok(())
+        }
+    }
+}
+
+fn is_out_of_memory(refusal: &Refusal) -> bool
+    ensures { result ≡ is_out_of_memory refusal.now }
+{
+    matches!(refusal, Refusal::OutOfMemory)
+}
+
 #[tactic(auto, unfolding(crate::specs::Texts::refused_text))]
-fn write_refused(refusal: &Refusal, into: &mut Vec<u8>) -> Result<(), OutOfMemory>
-    ensures { OnOk result (into.new.items ≡ into.old.items ++ refused_text refusal.now) }
+fn write_refused(
+    refusal: &Refusal,
+    tried: Option<bool>,
+    into: &mut Vec<u8>,
+) -> Result<(), OutOfMemory>
+    ensures { OnOk result (into.new.items ≡ into.old.items ++ refused_text refusal.now tried) }
 {
     into.extend_from_slice(b"refused ")?;
-    write_refusal(refusal, into)
+    write_refusal(refusal, into)?;
+    if is_out_of_memory(refusal) {
+        return Ok(());
+    }
+    write_undo(tried, into)
 }
 
 /// Appends a transaction, and where and when it was written.
@@ -163,7 +230,9 @@ fn write_said(answer: &CommandAnswer, into: &mut Vec<u8>) -> Result<(), OutOfMem
 {
     match answer {
         CommandAnswer::Promoted { alias, term, .. } => write_promoted(alias, *term, into),
-        CommandAnswer::Refused { refusal } => write_refused(refusal, into),
+        CommandAnswer::NothingToDo { alias } => write_nothing_to_do(alias, into),
+        CommandAnswer::Recorded { term } => write_recorded(*term, into),
+        CommandAnswer::Refused { refusal, undone } => write_refused(refusal, *undone, into),
         CommandAnswer::Committed { gtid, alias, term } => write_committed(gtid, alias, *term, into),
         CommandAnswer::NotPrimary { alias, stand } => write_not_primary(alias, stand, into),
         CommandAnswer::NoPrimaryRecorded => {
@@ -250,6 +319,8 @@ pub(crate) fn is_refused(answer: &CommandAnswer) -> bool
 {
     match answer {
         CommandAnswer::Promoted { .. } => false,
+        CommandAnswer::NothingToDo { .. } => false,
+        CommandAnswer::Recorded { .. } => false,
         CommandAnswer::Refused { .. } => true,
         CommandAnswer::Committed { .. } => false,
         CommandAnswer::NotPrimary { .. } => true,

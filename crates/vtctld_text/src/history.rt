@@ -8,9 +8,9 @@ ghost use Rattle.vtctld_text.specs.Notes.{texts_with, text_with, AreInPlace, has
 
 use crate::answer::{is_refused, write_answer};
 use crate::begun::Begun;
-use crate::note::{Note, write_notes_at};
+use crate::note::write_notes_at;
 use shard_base::OutOfMemory;
-use shard_calls::{Command, Event, Step};
+use shard_calls::{Command, Event, Note, Step};
 use shard_names::{Alias, Name};
 use std::alloc::Global;
 

@@ -8,11 +8,14 @@ mod laws;
 mod moment;
 mod note;
 mod number;
+mod reason;
 mod refusal;
+#[cfg(test)]
+mod refusal_tests;
 mod stand;
 #[cfg(test)]
 mod tests;
 
 pub use history::{has_refusal, has_refusal_with, text_of, text_with};
 pub use laws::{each_note_is_printed_once, without_notes_is_text_of};
-pub use note::{Note, RefusedAction};
+pub use note::{RefusedAction, action_line};

@@ -2,11 +2,13 @@ ghost use Rattle.std.specs.Prelude.{◌≡◌, ◌+◌, ◌++◌, ◌==◌, OnOk
 ghost use Rattle.std.specs.List.{prefix_len};
 ghost use Rattle.std.specs.List.Sorted.{IsNonDecreasingBy};
 ghost use Rattle.vtctld_text.specs.Stands.{line};
-ghost use Rattle.vtctld_text.specs.Notes.{no_message_text, not_deliverable_text, is_up_text, is_down_text, action_text, note_text, notes_at, note_lines, count_before};
+ghost use Rattle.vtctld_text.specs.Notes.{no_message_text, not_deliverable_text, is_up_text, is_down_text, action_text, notes_at, note_lines, count_before};
 
 use crate::number::write_number;
-use shard_base::OutOfMemory;
+use shard_base::{Items, OutOfMemory};
+use shard_calls::Note;
 use shard_names::Alias;
+use std::alloc::Global;
 
 /// A script action that was refused.
 #[derive(Clone, Copy)]
@@ -19,13 +21,6 @@ pub enum RefusedAction {
     IsUp { alias: Alias },
     /// `local`: the tablet is down.
     IsDown { alias: Alias },
-}
-
-/// A refused action, and how many steps stood before it.
-#[derive(Clone, Copy)]
-pub struct Note {
-    pub place: u64,
-    pub action: RefusedAction,
 }
 
 #[tactic(auto, unfolding(crate::specs::Notes::no_message_text))]
@@ -78,11 +73,20 @@ fn write_action(action: &RefusedAction, into: &mut Vec<u8>) -> Result<(), OutOfM
     }
 }
 
+/// The line of a refused action, without a newline.
+pub fn action_line(alloc: Global, action: &RefusedAction) -> Result<Items<u8>, OutOfMemory>
+    ensures { IfOk result (λ line. line ≡ action_text action.now) }
+{
+    let mut line = Vec::new(alloc);
+    write_action(action, &mut line)?;
+    Ok(Items::from_vec(line))
+}
+
 /// Appends the line of a note.
 fn write_note(note: &Note, into: &mut Vec<u8>) -> Result<(), OutOfMemory>
-    ensures { OnOk result (into.new.items ≡ into.old.items ++ line (note_text note.now)) }
+    ensures { OnOk result (into.new.items ≡ into.old.items ++ line note.now.line) }
 {
-    write_action(&note.action, into)?;
+    into.extend_from_slice(note.line.as_slice())?;
     into.push(b'\n')?;
     Ok(())
 }

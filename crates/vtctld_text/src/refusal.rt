@@ -1,11 +1,12 @@
 ghost use Rattle.std.specs.Prelude.{◌≡◌, ◌++◌, OnOk};
-ghost use Rattle.vtctld_text.specs.Refusals.{lock_taken_text, lock_lost_text, no_such_tablet_text, bar_text, not_eligible_text, unreachable_text, lacks_text, not_caught_up_text, stale_term_text, not_told_text, unacked_text, not_acknowledged_text, out_of_memory_text, not_built_text, refusal_text};
+ghost use Rattle.vtctld_text.specs.Refusals.{lock_taken_text, lock_lost_text, no_such_tablet_text, not_eligible_text, expected_primary_text, both_given_text, reparent_pending_text, unreachable_text, no_candidate_text, lacks_text, not_caught_up_text, stale_term_text, not_revoked_text, ackers_text, cannot_establish_text, split_brain_text, cross_cell_text, not_told_text, unacked_text, not_acknowledged_text, errant_refusal_text, not_promoted_text, out_of_memory_text, not_built_text, refusal_text, primary_or_none, has_text};
 
 use crate::number::write_number;
-use crate::stand::{write_has_seen, write_since, write_stands, write_why};
+use crate::reason::{write_all_not_stopped, write_all_rejected, write_bar};
+use crate::stand::{write_has_seen, write_in_term, write_since, write_stands, write_why};
 use gtid_sets::{GtidSet, write_set};
 use shard_base::OutOfMemory;
-use shard_calls::{Bar, Refusal, Unacked, Why};
+use shard_calls::{Bar, NotStopped, Refusal, Rejected, Unacked, Why};
 use shard_names::Alias;
 
 #[tactic(auto, unfolding(crate::specs::Refusals::lock_taken_text))]
@@ -35,17 +36,6 @@ fn write_no_such_tablet(alias: &Alias, into: &mut Vec<u8>) -> Result<(), OutOfMe
     alias.write(into)
 }
 
-fn write_bar(bar: &Bar, into: &mut Vec<u8>) -> Result<(), OutOfMemory>
-    ensures { OnOk result (into.new.items ≡ into.old.items ++ bar_text bar.now) }
-{
-    match bar {
-        Bar::MustNot => {
-            into.extend_from_slice(b"must_not")?;
-            Ok(())
-        }
-    }
-}
-
 #[tactic(auto, unfolding(crate::specs::Refusals::not_eligible_text))]
 fn write_not_eligible(alias: &Alias, bar: &Bar, into: &mut Vec<u8>) -> Result<(), OutOfMemory>
     ensures { OnOk result (into.new.items ≡ into.old.items ++ not_eligible_text alias.now bar.now) }
@@ -56,6 +46,43 @@ fn write_not_eligible(alias: &Alias, bar: &Bar, into: &mut Vec<u8>) -> Result<()
     write_bar(bar, into)
 }
 
+/// Appends the recorded primary.
+fn write_primary_or_none(recorded: &Option<Alias>, into: &mut Vec<u8>) -> Result<(), OutOfMemory>
+    ensures { OnOk result (into.new.items ≡ into.old.items ++ primary_or_none recorded.now) }
+{
+    match recorded {
+        None => {
+            into.extend_from_slice(b"none")?;
+            Ok(())
+        }
+        Some(alias) => alias.write(into),
+    }
+}
+
+#[tactic(auto, unfolding(crate::specs::Refusals::expected_primary_text))]
+fn write_expected_primary(recorded: &Option<Alias>, into: &mut Vec<u8>) -> Result<(), OutOfMemory>
+    ensures { OnOk result (into.new.items ≡ into.old.items ++ expected_primary_text recorded.now) }
+{
+    into.extend_from_slice(b"5 ExpectedPrimary: ")?;
+    write_primary_or_none(recorded, into)
+}
+
+#[tactic(auto, unfolding(crate::specs::Refusals::both_given_text))]
+fn write_both_given(into: &mut Vec<u8>) -> Result<(), OutOfMemory>
+    ensures { OnOk result (into.new.items ≡ into.old.items ++ both_given_text) }
+{
+    into.extend_from_slice(b"6 BothGiven")?;
+    Ok(())
+}
+
+#[tactic(auto, unfolding(crate::specs::Refusals::reparent_pending_text))]
+fn write_reparent_pending(alias: &Alias, term: u64, into: &mut Vec<u8>) -> Result<(), OutOfMemory>
+    ensures { OnOk result (into.new.items ≡ into.old.items ++ reparent_pending_text alias.now term) }
+{
+    into.extend_from_slice(b"7 ReparentPending: ")?;
+    write_in_term(alias, term, into)
+}
+
 #[tactic(auto, unfolding(crate::specs::Refusals::unreachable_text))]
 fn write_unreachable(alias: &Alias, why: &Why, into: &mut Vec<u8>) -> Result<(), OutOfMemory>
     ensures { OnOk result (into.new.items ≡ into.old.items ++ unreachable_text alias.now why.now) }
@@ -64,6 +91,14 @@ fn write_unreachable(alias: &Alias, why: &Why, into: &mut Vec<u8>) -> Result<(),
     alias.write(into)?;
     into.extend_from_slice(b" ")?;
     write_why(why, into)
+}
+
+#[tactic(auto, unfolding(crate::specs::Refusals::no_candidate_text))]
+fn write_no_candidate(rejected: &[Rejected], into: &mut Vec<u8>) -> Result<(), OutOfMemory>
+    ensures { OnOk result (into.new.items ≡ into.old.items ++ no_candidate_text rejected.now) }
+{
+    into.extend_from_slice(b"9 NoCandidate: ")?;
+    write_all_rejected(rejected, into)
 }
 
 /// Appends what a tablet lacks.
@@ -100,6 +135,84 @@ fn write_stale_term(alias: &Alias, seen: u64, into: &mut Vec<u8>) -> Result<(), 
     alias.write(into)?;
     into.extend_from_slice(b" ")?;
     write_has_seen(seen, into)
+}
+
+#[tactic(auto, unfolding(crate::specs::Refusals::not_revoked_text))]
+fn write_not_revoked(
+    alias: &Alias,
+    unreached: &[NotStopped],
+    into: &mut Vec<u8>,
+) -> Result<(), OutOfMemory>
+    ensures { OnOk result (into.new.items ≡ into.old.items ++ not_revoked_text alias.now unreached.now) }
+{
+    into.extend_from_slice(b"12 NotRevoked: ")?;
+    alias.write(into)?;
+    into.extend_from_slice(b" may still commit; unreached ")?;
+    write_all_not_stopped(unreached, into)
+}
+
+/// Appends how many of the tablets that can acknowledge a primary's writes there are, of those that it needs.
+#[tactic(auto, unfolding(crate::specs::Refusals::ackers_text))]
+fn write_ackers(have: u32, need: u32, into: &mut Vec<u8>) -> Result<(), OutOfMemory>
+    ensures { OnOk result (into.new.items ≡ into.old.items ++ ackers_text have need) }
+{
+    write_number(u64::from(have), into)?;
+    into.extend_from_slice(b" of ")?;
+    write_number(u64::from(need), into)?;
+    into.extend_from_slice(b" ackers")?;
+    Ok(())
+}
+
+#[tactic(auto, unfolding(crate::specs::Refusals::cannot_establish_text))]
+fn write_cannot_establish(
+    alias: &Alias,
+    have: u32,
+    need: u32,
+    into: &mut Vec<u8>,
+) -> Result<(), OutOfMemory>
+    ensures { OnOk result (into.new.items ≡ into.old.items ++ cannot_establish_text alias.now have need) }
+{
+    into.extend_from_slice(b"13 CannotEstablish: ")?;
+    alias.write(into)?;
+    into.extend_from_slice(b" has ")?;
+    write_ackers(have, need, into)
+}
+
+/// Appends what a tablet has.
+#[tactic(auto, unfolding(crate::specs::Refusals::has_text))]
+fn write_has(alias: &Alias, position: &GtidSet, into: &mut Vec<u8>) -> Result<(), OutOfMemory>
+    ensures { OnOk result (into.new.items ≡ into.old.items ++ has_text alias.now position.now) }
+{
+    alias.write(into)?;
+    into.extend_from_slice(b" has ")?;
+    write_set(position, into)
+}
+
+#[tactic(auto, unfolding(crate::specs::Refusals::split_brain_text))]
+fn write_split_brain(
+    a: &Alias,
+    has_a: &GtidSet,
+    b: &Alias,
+    has_b: &GtidSet,
+    into: &mut Vec<u8>,
+) -> Result<(), OutOfMemory>
+    ensures { OnOk result (into.new.items ≡ into.old.items ++ split_brain_text a.now has_a.now b.now has_b.now) }
+{
+    into.extend_from_slice(b"14 SplitBrain: ")?;
+    write_has(a, has_a, into)?;
+    into.extend_from_slice(b" and ")?;
+    write_has(b, has_b, into)
+}
+
+#[tactic(auto, unfolding(crate::specs::Refusals::cross_cell_text))]
+fn write_cross_cell(alias: &Alias, into: &mut Vec<u8>) -> Result<(), OutOfMemory>
+    ensures { OnOk result (into.new.items ≡ into.old.items ++ cross_cell_text alias.now) }
+{
+    into.extend_from_slice(b"15 CrossCell: ")?;
+    alias.write(into)?;
+    into.extend_from_slice(b" is in ")?;
+    into.extend_from_slice(alias.cell.as_slice())?;
+    Ok(())
 }
 
 /// Appends since when and until when too few tablets had acknowledged a promotion.
@@ -139,6 +252,28 @@ fn write_not_acknowledged(
     write_unacked(alias, cause, into)
 }
 
+#[tactic(auto, unfolding(crate::specs::Refusals::errant_refusal_text))]
+fn write_errant_refusal(
+    alias: &Alias,
+    extra: &GtidSet,
+    into: &mut Vec<u8>,
+) -> Result<(), OutOfMemory>
+    ensures { OnOk result (into.new.items ≡ into.old.items ++ errant_refusal_text alias.now extra.now) }
+{
+    into.extend_from_slice(b"18 Errant: ")?;
+    write_has(alias, extra, into)
+}
+
+#[tactic(auto, unfolding(crate::specs::Refusals::not_promoted_text))]
+fn write_not_promoted(alias: &Alias, newest: u64, into: &mut Vec<u8>) -> Result<(), OutOfMemory>
+    ensures { OnOk result (into.new.items ≡ into.old.items ++ not_promoted_text alias.now newest) }
+{
+    into.extend_from_slice(b"19 NotPromoted: ")?;
+    alias.write(into)?;
+    into.extend_from_slice(b" has newest row ")?;
+    write_number(newest, into)
+}
+
 #[tactic(auto, unfolding(crate::specs::Refusals::out_of_memory_text))]
 fn write_out_of_memory(into: &mut Vec<u8>) -> Result<(), OutOfMemory>
     ensures { OnOk result (into.new.items ≡ into.old.items ++ out_of_memory_text) }
@@ -160,19 +295,33 @@ pub(crate) fn write_refusal(refusal: &Refusal, into: &mut Vec<u8>) -> Result<(),
     ensures { OnOk result (into.new.items ≡ into.old.items ++ refusal_text refusal.now) }
 {
     match refusal {
-        Refusal::LockTaken { term, by } => write_lock_taken(*term, by.as_slice(), into),
+        Refusal::LockTaken { term, actor } => write_lock_taken(*term, actor.as_slice(), into),
         Refusal::LockLost { term } => write_lock_lost(*term, into),
         Refusal::NoSuchTablet { alias } => write_no_such_tablet(alias, into),
         Refusal::NotEligible { alias, bar } => write_not_eligible(alias, bar, into),
+        Refusal::ExpectedPrimary { recorded } => write_expected_primary(recorded, into),
+        Refusal::BothGiven => write_both_given(into),
+        Refusal::ReparentPending { alias, term } => write_reparent_pending(alias, *term, into),
         Refusal::Unreachable { alias, why } => write_unreachable(alias, why, into),
+        Refusal::NoCandidate { reasons } => write_no_candidate(reasons.as_slice(), into),
         Refusal::NotCaughtUp {
             alias,
             missing,
             since,
             now,
-        } => write_not_caught_up(alias, missing, *since, *now, into),
+        } => { write_not_caught_up(alias, missing, *since, *now, into) }
         Refusal::StaleTerm { alias, seen } => write_stale_term(alias, *seen, into),
+        Refusal::NotRevoked { alias, unreached } => {
+            write_not_revoked(alias, unreached.as_slice(), into)
+        }
+        Refusal::CannotEstablish { alias, have, need } => {
+            write_cannot_establish(alias, *have, *need, into)
+        }
+        Refusal::SplitBrain { a, has_a, b, has_b } => write_split_brain(a, has_a, b, has_b, into),
+        Refusal::CrossCell { alias } => write_cross_cell(alias, into),
         Refusal::NotAcknowledged { alias, cause } => write_not_acknowledged(alias, cause, into),
+        Refusal::Errant { alias, extra } => write_errant_refusal(alias, extra, into),
+        Refusal::NotPromoted { alias, newest } => write_not_promoted(alias, *newest, into),
         Refusal::NotBuilt { term } => write_not_built(*term, into),
         Refusal::OutOfMemory => write_out_of_memory(into),
     }

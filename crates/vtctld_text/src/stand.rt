@@ -1,5 +1,5 @@
 ghost use Rattle.std.specs.Prelude.{◌≡◌, ◌++◌, OnOk};
-ghost use Rattle.vtctld_text.specs.Stands.{since_text, primary_text, demoted_text, in_term_text, replica_text, standing_text, stands_text, timed_out_text, why_text, errant_text, has_seen_text, promised_text, left_text, not_joined_text};
+ghost use Rattle.vtctld_text.specs.Stands.{since_text, primary_text, demoted_text, in_term_text, replica_text, feeder_text, standing_text, stands_text, timed_out_text, why_text, errant_text, has_seen_text, promised_text, left_text, not_joined_text};
 
 use crate::moment::write_moment;
 use crate::number::write_number;
@@ -55,6 +55,14 @@ fn write_replica(source: &Alias, term: u64, into: &mut Vec<u8>) -> Result<(), Ou
     write_in_term(source, term, into)
 }
 
+#[tactic(auto, unfolding(crate::specs::Stands::feeder_text))]
+fn write_feeder(term: u64, into: &mut Vec<u8>) -> Result<(), OutOfMemory>
+    ensures { OnOk result (into.new.items ≡ into.old.items ++ feeder_text term) }
+{
+    into.extend_from_slice(b"feeder in term ")?;
+    write_number(term, into)
+}
+
 /// Appends a stand.
 pub(crate) fn write_standing(stand: &Standing, into: &mut Vec<u8>) -> Result<(), OutOfMemory>
     ensures { OnOk result (into.new.items ≡ into.old.items ++ standing_text stand.now) }
@@ -71,6 +79,7 @@ pub(crate) fn write_standing(stand: &Standing, into: &mut Vec<u8>) -> Result<(),
         Standing::Primary { term } => write_primary(*term, into),
         Standing::Demoted { term, by } => write_demoted(*term, *by, into),
         Standing::Replica { source, term } => write_replica(source, *term, into),
+        Standing::Feeder { term } => write_feeder(*term, into),
     }
 }
 
@@ -148,7 +157,7 @@ fn write_left(left: &Left, into: &mut Vec<u8>) -> Result<(), OutOfMemory>
 {
     match left {
         Left::Errant { extra } => write_errant(extra, into),
-        Left::GivenUp { why } => write_why(why, into),
+        Left::GivenUp(why) => write_why(why, into),
         Left::StaleTerm { seen } => write_has_seen(*seen, into),
         Left::PromisedAhead { promised } => write_promised(*promised, into),
     }

@@ -1,12 +1,11 @@
 ghost use Rattle.std.specs.Prelude.{◌≡◌};
 
 use crate::moment::write_moment;
-use crate::{Note, RefusedAction, has_refusal, has_refusal_with, text_of, text_with};
+use crate::{RefusedAction, action_line, has_refusal, has_refusal_with, text_of, text_with};
 use gtid_sets::{Gtid, GtidSet};
 use shard_base::{Items, OutOfMemory};
 use shard_calls::{
-    Bar, Command, CommandAnswer, Event, Left, NotJoined, Refusal, Reply, Standing, Step, Unacked,
-    Why,
+    Command, CommandAnswer, Event, Left, NotJoined, Note, Refusal, Reply, Standing, Step, Why,
 };
 use shard_names::{Alias, Name, ShardName};
 use std::alloc::Global;
@@ -14,15 +13,15 @@ use std::process::Abort;
 use std::test::Fail;
 use uuid::Uuid;
 
-fn alias(rt: &impl Abort, text: &[u8]) -> Alias {
+pub(crate) fn alias(rt: &impl Abort, text: &[u8]) -> Alias {
     Alias::read(text).ok().expect(rt, "an alias")
 }
 
-fn name(rt: &impl Abort, text: &[u8]) -> Name {
+pub(crate) fn name(rt: &impl Abort, text: &[u8]) -> Name {
     Name::from_slice(text).expect(rt, "a name")
 }
 
-fn gtid(last: u8, number: u64) -> Gtid {
+pub(crate) fn gtid(last: u8, number: u64) -> Gtid {
     Gtid {
         server: Uuid::from_bytes([0, 0, 0, 0, 0, 0, 0x40, 0, 0x80, 0, 0, 0, 0, 0, 1, last]),
         number,
@@ -32,7 +31,11 @@ fn gtid(last: u8, number: u64) -> Gtid {
 fn planned(rt: &impl Abort) -> Command {
     Command::Planned {
         shard: ShardName::read(b"commerce/0").expect(rt, "a shard's name"),
-        new_primary: alias(rt, b"zone1-100"),
+        new_primary: Some(alias(rt, b"zone1-100")),
+        avoid: None,
+        expected: None,
+        timeout: None,
+        allow_cross_cell: false,
     }
 }
 
@@ -63,15 +66,6 @@ fn text_by(
 ) -> Result<Vec<u8>, OutOfMemory> {
     let steps = [began(actor, command), ended(answer)];
     text_of(alloc, &steps)
-}
-
-fn refusal_by(rt: &impl Abort, alloc: Global, refusal: Refusal) -> Result<Vec<u8>, OutOfMemory> {
-    text_by(
-        alloc,
-        name(rt, b"p"),
-        planned(rt),
-        CommandAnswer::Refused { refusal },
-    )
 }
 
 fn moment(alloc: Global, milliseconds: u64) -> Result<Vec<u8>, OutOfMemory> {
@@ -114,7 +108,7 @@ fn push_left(left: &mut Items<NotJoined>, alias: Alias, cause: Left) -> Result<(
     left.push(NotJoined { alias, left: cause })
 }
 
-fn one(alloc: Global, gtid: Gtid) -> Result<GtidSet, OutOfMemory> {
+pub(crate) fn one(alloc: Global, gtid: Gtid) -> Result<GtidSet, OutOfMemory> {
     let mut set = GtidSet::empty(alloc);
     set.add(gtid)?;
     Ok(set)
@@ -125,11 +119,7 @@ fn all_left(rt: &impl Abort, alloc: Global) -> Result<Items<NotJoined>, OutOfMem
     let mut left = Items::new(alloc);
     let extra = one(alloc, gtid(1, 2))?;
     push_left(&mut left, alias(rt, b"zone1-101"), Left::Errant { extra })?;
-    push_left(
-        &mut left,
-        alias(rt, b"zone1-102"),
-        Left::GivenUp { why: Why::Lost },
-    )?;
+    push_left(&mut left, alias(rt, b"zone1-102"), Left::GivenUp(Why::Lost))?;
     push_left(
         &mut left,
         alias(rt, b"zone1-103"),
@@ -166,11 +156,7 @@ fn prints_who_did_not_join(rt: HostRuntime) -> Result<(), Fail> {
 fn begins_each_line_with_the_actor(rt: HostRuntime) -> Result<(), Fail> {
     let alloc = rt.alloc();
     let mut left = Items::new(alloc);
-    push_left(
-        &mut left,
-        alias(&rt, b"zone1-101"),
-        Left::GivenUp { why: Why::Cut },
-    )?;
+    push_left(&mut left, alias(&rt, b"zone1-101"), Left::GivenUp(Why::Cut))?;
     let promoted = CommandAnswer::Promoted {
         alias: alias(&rt, b"zone1-100"),
         term: 2,
@@ -250,6 +236,14 @@ fn shows_stands(rt: HostRuntime) -> Result<(), Fail> {
     )?;
     let want = b"show zone1-0000000101: demoted from term 3 by term 5, position MySQL56/\n";
     assert_eq!(rt; text.as_slice(), want.as_slice());
+    let text = shows(
+        &rt,
+        alloc,
+        Standing::Feeder { term: 4 },
+        GtidSet::empty(alloc),
+    )?;
+    let want = b"show zone1-0000000101: feeder in term 4, position MySQL56/\n";
+    assert_eq!(rt; text.as_slice(), want.as_slice());
     Ok(())
 }
 
@@ -299,118 +293,73 @@ fn prints_writes_that_were_not_taken(rt: HostRuntime) -> Result<(), Fail> {
     Ok(())
 }
 
-#[test]
-fn prints_refusals_of_the_lock(rt: HostRuntime) -> Result<(), Fail> {
-    let alloc = rt.alloc();
-    let taken = Refusal::LockTaken {
-        term: 1,
-        by: name(&rt, b"q"),
+/// The text of a reparent that was refused for want of a link.
+fn refused_by(
+    rt: &impl Abort,
+    alloc: Global,
+    undone: Option<bool>,
+) -> Result<Vec<u8>, OutOfMemory> {
+    let refusal = Refusal::Unreachable {
+        alias: alias(rt, b"zone1-100"),
+        why: Why::Cut,
     };
-    let text = refusal_by(&rt, alloc, taken)?;
-    let want = b"[p] PlannedReparentShard commerce/0: refused 1 LockTaken: term 1 by q\n";
-    assert_eq!(rt; text.as_slice(), want.as_slice());
-    let text = refusal_by(&rt, alloc, Refusal::LockLost { term: 2 })?;
-    let want = b"[p] PlannedReparentShard commerce/0: refused 2 LockLost: topology is at term 2\n";
-    assert_eq!(rt; text.as_slice(), want.as_slice());
-    let text = refusal_by(&rt, alloc, Refusal::NotBuilt { term: 1 })?;
-    let want = b"[p] PlannedReparentShard commerce/0: refused 21 NotBuilt: intent of term 1\n";
-    assert_eq!(rt; text.as_slice(), want.as_slice());
-    Ok(())
-}
-
-#[test]
-fn prints_refusals_of_tablets(rt: HostRuntime) -> Result<(), Fail> {
-    let alloc = rt.alloc();
-    let text = refusal_by(
-        &rt,
+    text_by(
         alloc,
-        Refusal::NoSuchTablet {
-            alias: alias(&rt, b"zone1-100"),
-        },
-    )?;
-    let want = b"[p] PlannedReparentShard commerce/0: refused 3 NoSuchTablet: zone1-0000000100\n";
-    assert_eq!(rt; text.as_slice(), want.as_slice());
-    let spare = Refusal::NotEligible {
-        alias: alias(&rt, b"zone1-100"),
-        bar: Bar::MustNot,
-    };
-    let text = refusal_by(&rt, alloc, spare)?;
-    let want =
-        b"[p] PlannedReparentShard commerce/0: refused 4 NotEligible: zone1-0000000100 must_not\n";
-    assert_eq!(rt; text.as_slice(), want.as_slice());
-    let stale = Refusal::StaleTerm {
-        alias: alias(&rt, b"zone1-100"),
-        seen: 2,
-    };
-    let text = refusal_by(&rt, alloc, stale)?;
-    let want =
-        b"[p] PlannedReparentShard commerce/0: refused 11 StaleTerm: zone1-0000000100 has seen term 2\n";
-    assert_eq!(rt; text.as_slice(), want.as_slice());
-    Ok(())
+        name(rt, b"p"),
+        planned(rt),
+        CommandAnswer::Refused { refusal, undone },
+    )
 }
 
 #[test]
-fn prints_refusals_by_calls(rt: HostRuntime) -> Result<(), Fail> {
+fn prints_what_became_of_an_undo(rt: HostRuntime) -> Result<(), Fail> {
     let alloc = rt.alloc();
-    let late = Refusal::Unreachable {
-        alias: alias(&rt, b"zone1-100"),
-        why: Why::TimedOut {
-            since: 1704067200000,
-            now: 1704067215000,
-        },
-    };
-    let text = refusal_by(&rt, alloc, late)?;
+    let text = refused_by(&rt, alloc, None)?;
     let want =
-        b"[p] PlannedReparentShard commerce/0: refused 8 Unreachable: zone1-0000000100 timed out since \
-                 2024-01-01T00:00:00.000Z at 2024-01-01T00:00:15.000Z\n";
+        b"[p] PlannedReparentShard commerce/0: refused 8 Unreachable: zone1-0000000100 cut\n";
     assert_eq!(rt; text.as_slice(), want.as_slice());
-    let behind = Refusal::NotCaughtUp {
-        alias: alias(&rt, b"zone1-100"),
-        missing: one(alloc, gtid(0, 2))?,
-        since: 1704067200000,
-        now: 1704067200001,
-    };
-    let text = refusal_by(&rt, alloc, behind)?;
+    let text = refused_by(&rt, alloc, Some(true))?;
     let want =
-        b"[p] PlannedReparentShard commerce/0: refused 10 NotCaughtUp: zone1-0000000100 lacks \
-                 00000000-0000-4000-8000-000000000100:2 since 2024-01-01T00:00:00.000Z at 2024-01-01T00:00:00.001Z\n";
+        b"[p] PlannedReparentShard commerce/0: refused 8 Unreachable: zone1-0000000100 cut; undone\n";
+    assert_eq!(rt; text.as_slice(), want.as_slice());
+    let text = refused_by(&rt, alloc, Some(false))?;
+    let want =
+        b"[p] PlannedReparentShard commerce/0: refused 8 Unreachable: zone1-0000000100 cut; not undone\n";
     assert_eq!(rt; text.as_slice(), want.as_slice());
     Ok(())
 }
 
 #[test]
-fn prints_not_acknowledged(rt: HostRuntime) -> Result<(), Fail> {
-    let not_told = Refusal::NotAcknowledged {
-        alias: alias(&rt, b"zone1-100"),
-        cause: Unacked::NotTold {
-            since: 1704067200000,
-            now: 1704067216000,
-        },
+fn says_nothing_of_an_undo_after_want_of_memory(rt: HostRuntime) -> Result<(), Fail> {
+    let answer = CommandAnswer::Refused {
+        refusal: Refusal::OutOfMemory,
+        undone: Some(true),
     };
-    let text = refusal_by(&rt, rt.alloc(), not_told)?;
-    let want =
-        b"[p] PlannedReparentShard commerce/0: refused 17 NotAcknowledged: zone1-0000000100 since \
-                 2024-01-01T00:00:00.000Z at 2024-01-01T00:00:16.000Z\n";
+    let text = text_by(rt.alloc(), name(&rt, b"main"), planned(&rt), answer)?;
+    let want = b"PlannedReparentShard commerce/0: refused 20 OutOfMemory\n";
     assert_eq!(rt; text.as_slice(), want.as_slice());
     Ok(())
 }
 
 #[test]
-fn prints_other_refusals(rt: HostRuntime) -> Result<(), Fail> {
-    let alloc = rt.alloc();
-    let kept = Refusal::NotAcknowledged {
+fn prints_that_nothing_was_to_do(rt: HostRuntime) -> Result<(), Fail> {
+    let answer = CommandAnswer::NothingToDo {
         alias: alias(&rt, b"zone1-100"),
-        cause: Unacked::Kept {
-            stand: Standing::Demoted { term: 1, by: 2 },
-        },
     };
-    let text = refusal_by(&rt, alloc, kept)?;
-    let want =
-        b"[p] PlannedReparentShard commerce/0: refused 17 NotAcknowledged: zone1-0000000100 is demoted \
-                 from term 1 by term 2\n";
+    let text = text_by(rt.alloc(), name(&rt, b"main"), planned(&rt), answer)?;
+    let want = b"PlannedReparentShard commerce/0: nothing to do, primary is zone1-0000000100\n";
     assert_eq!(rt; text.as_slice(), want.as_slice());
-    let text = refusal_by(&rt, alloc, Refusal::OutOfMemory)?;
-    let want = b"[p] PlannedReparentShard commerce/0: refused 20 OutOfMemory\n";
+    Ok(())
+}
+
+#[test]
+fn prints_promotions_by_other_hands(rt: HostRuntime) -> Result<(), Fail> {
+    let command = Command::External {
+        alias: alias(&rt, b"zone1-101"),
+    };
+    let answer = CommandAnswer::Recorded { term: 3 };
+    let text = text_by(rt.alloc(), name(&rt, b"x"), command, answer)?;
+    let want = b"[x] TabletExternallyReparented zone1-0000000101: recorded in term 3\n";
     assert_eq!(rt; text.as_slice(), want.as_slice());
     Ok(())
 }
@@ -442,13 +391,14 @@ fn counts_refusals(rt: HostRuntime) -> Result<(), Fail> {
         position: GtidSet::empty(alloc),
     };
     assert!(rt; !has_refusal_by(shown));
+    assert!(rt; !has_refusal_by(CommandAnswer::Recorded { term: 1 }));
     Ok(())
 }
 
-fn note(place: u64, action: RefusedAction) -> Note
-    ensures { result ≡ record { place = place; action = action } }
+fn note(place: u64, line: Items<u8>) -> Note
+    ensures { result ≡ record { place = place; line = line } }
 {
-    Note { place, action }
+    Note { place, line }
 }
 
 #[test]
@@ -460,11 +410,15 @@ fn prints_notes_behind_their_steps(rt: HostRuntime) -> Result<(), Fail> {
         began(name(&rt, b"p"), write()),
         ended(CommandAnswer::NoPrimaryRecorded),
     ];
+    let lost = action_line(alloc, &RefusedAction::NoMessage { message: 7 })?;
+    let repeated = action_line(alloc, &RefusedAction::NotDeliverable { message: 3 })?;
+    let is_up = action_line(alloc, &RefusedAction::IsUp { alias: up })?;
+    let is_down = action_line(alloc, &RefusedAction::IsDown { alias: down })?;
     let notes = [
-        note(0, RefusedAction::NoMessage { message: 7 }),
-        note(1, RefusedAction::NotDeliverable { message: 3 }),
-        note(2, RefusedAction::IsUp { alias: up }),
-        note(2, RefusedAction::IsDown { alias: down }),
+        note(0, lost),
+        note(1, repeated),
+        note(2, is_up),
+        note(2, is_down),
     ];
     let text = text_with(alloc, &steps, &notes)?;
     let want =
@@ -479,7 +433,8 @@ fn counts_refused_actions(rt: HostRuntime) -> Result<(), Fail> {
     let steps = [ended(CommandAnswer::NoPrimaryRecorded)];
     assert!(rt; has_refusal_with(&steps, &[]));
     assert!(rt; !has_refusal_with(&[], &[]));
-    let notes = [note(0, RefusedAction::NoMessage { message: 0 })];
+    let line = action_line(rt.alloc(), &RefusedAction::NoMessage { message: 0 })?;
+    let notes = [note(0, line)];
     assert!(rt; has_refusal_with(&[], &notes));
     Ok(())
 }

@@ -1,5 +1,5 @@
 use Rattle.std.proofs.Common.{ap, ◌∙◌}
-use Rattle.shard_calls.specs.Logs.{position_of}
+use Rattle.gtid_sets.specs.Logs.{position_of}
 use Rattle.shard_calls.specs.Tablets.{TabletState}
 use Rattle.tablet_manager.specs.LogState.{LogState}
 use Rattle.changes.proofs.PlaceLemmas.{nothing_declared, state_is}

@@ -1,17 +1,17 @@
-use Rattle.std.proofs.Common.{◌≡◌, ℕ, ◌<◌, Option, IfOk, ap, sym, subst}
+use Rattle.std.proofs.Common.{◌≡◌, Option, IfOk, sym, subst}
 use Rattle.shard_calls.specs.World.{Config, World}
 use Rattle.shard_calls.specs.declared.event.Event.{Event}
 use Rattle.shard_state.specs.State.{data_of, world_seen}
-use Rattle.planned.specs.Course.{next}
-use Rattle.planned.proofs.ReachedLemmas.{reached}
+use Rattle.planned.specs.Course.{WaitsInTime, next}
+use Rattle.planned.proofs.ReachedLemmas.{all_wait_in_time}
 use Rattle.shard_top.proofs.player.next_of.Goals as goal
 
 pub next-requires : goal.next-requires
 next-requires c = record {
   group = c.fields-fields.ensures.group;
   time =
-      subst (λ (n : ℕ). n < 253370764800000) (sym (ap (λ (w : World). w.clock) c.fields-fields.ensures.world))
-      (reached c.args.shard.now.config c.args.shard.now.steps c.fields-fields.ensures.begins c.fields-fields.ensures.run).clock;
+      subst (λ (w : World). WaitsInTime w c.args.command) (sym c.fields-fields.ensures.world)
+      (all_wait_in_time c.args.shard.now.config c.args.shard.now.steps c.fields-fields.ensures.begins c.fields-fields.ensures.run c.args.command);
 }
 
 pub returns : goal.returns

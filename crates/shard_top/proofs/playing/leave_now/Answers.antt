@@ -6,6 +6,6 @@ pub leave-requires : goal.leave-requires
 leave-requires c = record { is_open = still_so (world_of c.args.shard.now) c.args.command c.requires.is_open }
 
 pub returns : goal.returns
-returns c = λ lines notes leaving closed h.
-    c.leave.ensures lines notes
-    (gives_up lines c.args.shard.now notes c.args.player.now leaving c.args.command (still_so (world_of c.args.shard.now) c.args.command c.requires.is_open) closed h)
+returns c = λ lines leaving closed h.
+    c.leave.ensures lines
+    (gives_up lines c.args.shard.now c.args.player.now leaving c.args.command (still_so (world_of c.args.shard.now) c.args.command c.requires.is_open) closed h)

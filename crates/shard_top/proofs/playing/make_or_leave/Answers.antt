@@ -2,8 +2,8 @@ use Rattle.shard_top.proofs.TurnLemmas.{plain_on, plain_else, maker_is_open}
 use Rattle.shard_top.proofs.playing.make_or_leave.Goals as goal
 
 pub returns-in-Ok-clause-turn : goal.returns-in-Ok-clause-turn
-returns-in-Ok-clause-turn c = λ lines notes h is.
-    plain_on lines c.args.shard.now c.make.new.shard notes c.args.player.now c.args.leaving c.args.event c.args.next.now c.requires.closed c.requires.room c.in-Ok.ensures.made h is
+returns-in-Ok-clause-turn c = λ lines h is.
+    plain_on lines c.args.shard.now c.make.new.shard c.args.player.now c.args.leaving c.args.event c.args.next.now c.requires.closed c.requires.room c.in-Ok.ensures.made h is
 
 pub returns-in-Err-clause-turn : goal.returns-in-Err-clause-turn
 returns-in-Err-clause-turn c =

@@ -1,8 +1,12 @@
+use Rattle.shard_script.proofs.ScriptLemmas.{lines_read}
 use Rattle.shard_top.proofs.TopLemmas.{gave_up_text, gives_line, said_line}
 use Rattle.shard_top.proofs.top.run_reading.Goals as goal
 
 pub returns-in-Err-OutOfMemory-clause-answers : goal.returns-in-Err-OutOfMemory-clause-answers
 returns-in-Err-OutOfMemory-clause-answers g c = gave_up_text c.args.text.now _ _ _ _ _ c.ended.ensures.status c.ended.ensures.empty c.ended.ensures.unnoted
+
+pub returns-in-Ok-clause-within : goal.returns-in-Ok-clause-within
+returns-in-Ok-clause-within g c = λ well. (lines_read c.args.text.now c.in-Ok.script c.in-Ok.ensures.exact).0
 
 pub returns-in-Err-Line-clause-answers : goal.returns-in-Err-Line-clause-answers
 returns-in-Err-Line-clause-answers g c =

@@ -1,5 +1,5 @@
 use Rattle.std.proofs.Common.{rules, ◌++◌, List, ap, ◌∙◌}
-use Rattle.vtctld_text.specs.declared.note.Note.{Note}
+use Rattle.shard_calls.specs.declared.event.Note.{Note}
 use Rattle.vtctld_text.specs.Notes.{note_lines}
 use Rattle.vtctld_text.proofs.NoteLemmas.{done_within, run_from}
 use Rattle.vtctld_text.proofs.note.write_notes_at.Goals as goal

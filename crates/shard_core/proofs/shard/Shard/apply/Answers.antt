@@ -1,10 +1,11 @@
-use Rattle.std.proofs.Common.{◌≡◌, true, ap, sym, ◌∙◌, arith}
+use Rattle.std.proofs.Common.{◌≡◌, true, ap, sym, subst, ◌∙◌, arith}
 use Rattle.std.proofs.lemmas.Bool.{false≢true}
 use Rattle.shard_calls.specs.Table.{meets}
 use Rattle.shard_calls.specs.World.{World}
 use Rattle.shard_state.specs.State.{data_of, seen, config_in}
-use Rattle.shard_core.specs.Kept.{Kept, world_of}
+use Rattle.shard_core.specs.Kept.{Kept, Makes, kept_of, world_of}
 use Rattle.shard_core.specs.Room.{has_room_kept}
+use Rattle.shard_core.proofs.NoteLemmas.{one_step}
 use Rattle.shard_core.proofs.RoomLemmas.{owed_within, owed_becomes, room_of_kept, same_room}
 use Rattle.shard_core.proofs.RunLemmas.{met_there}
 use Rattle.shard_core.proofs.shard.Shard.apply.Goals as goal
@@ -24,7 +25,14 @@ invariant_of-self c = record {
   owed = owed_becomes (data_of c.self.inside.fields) (data_of c.make.new.fields) c.args.event _ c.self.inside.owed c.owed_after-owed.result
       (sym (met_there (data_of c.self.inside.fields) c.self.inside.history.steps.items c.args.event c.self.invariant.leads) ∙ c.in-Some.ensures.0) c.in-Ok.ensures.made c.self.invariant.owed c.owed_after-owed.ensures;
   room = c.in-Ok.ensures.room;
+  notes = rw ((c.in-Ok.ensures.step c.self.inside.history.notes.items).steps) (one_step c.self.inside.history.steps.items _ c.self.inside.history.notes.items c.self.invariant.notes);
+  few_notes = c.self.invariant.few_notes;
 }
+
+pub returns-in-Ok-clause-made : goal.returns-in-Ok-clause-made
+returns-in-Ok-clause-made c =
+    subst (λ (k : Kept). Makes k (kept_of (data_of c.make.new.fields) c.make.new.steps.items c.self.inside.history.notes.items) c.args.event) c.self.view_is
+    (c.in-Ok.ensures.step c.self.inside.history.notes.items)
 
 pub returns-in-Err-clause-kept : goal.returns-in-Err-clause-kept
 returns-in-Err-clause-kept c kept err =

@@ -7,4 +7,4 @@ pub offerable-requires-clause-addressed : goal.offerable-requires-clause-address
 offerable-requires-clause-addressed c = addressed (data_of c.self.inside.fields) c.self.invariant.leads.sound
 
 pub returns : goal.returns
-returns c = c.offerable.ensures ∙ sym (offered_is (data_of c.self.inside.fields) c.self.inside.history.steps.items _ c.self.view_is c.self.invariant.leads)
+returns c = c.offerable.ensures ∙ sym (offered_is (data_of c.self.inside.fields) c.self.inside.history.steps.items c.self.inside.history.notes.items _ c.self.view_is c.self.invariant.leads)

@@ -1,6 +1,6 @@
 use Rattle.std.proofs.Common.{◌≡◌, ◌∙◌, ap, sym, max, ℕ, Bool, List, ◌∷◌, [], ◌++◌}
 use Rattle.gtid_sets.specs.declared.entry.Entry.{Entry}
-use Rattle.shard_calls.specs.Logs.{own_number, greatest_number, newest_row, newest_row_names}
+use Rattle.gtid_sets.specs.Logs.{own_number, greatest_number, newest_row, newest_row_names}
 use Rattle.shard_calls.proofs.LogLemmas.{greatest-push}
 use Rattle.tablet_manager.specs.LogState.{LogState}
 use Rattle.tablet_manager.specs.Managed.{names_after}

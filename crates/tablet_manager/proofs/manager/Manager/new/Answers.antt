@@ -2,7 +2,7 @@ use Rattle.std.proofs.Common.{◌≡◌, ◌∙◌, ap, sym, subst, List, Some}
 use Rattle.shard_names.specs.declared.tablet.Tablet.{Tablet}
 use Rattle.shard_names.specs.Tablets.{AreTablets, tablet_of}
 use Rattle.replication.specs.Acks.{aliases_of}
-use Rattle.shard_calls.specs.Logs.{greatest_number, newest_row_names}
+use Rattle.gtid_sets.specs.Logs.{greatest_number, newest_row_names}
 use Rattle.tablet_manager.specs.LogState.{LogState}
 use Rattle.tablet_manager.proofs.ManagedLemmas.{one_of}
 use Rattle.tablet_manager.proofs.manager.Manager.new.Goals as goal

@@ -1,7 +1,7 @@
 use Rattle.std.proofs.Common.{◌≡◌, ◌∙◌, ◌∷◌, [], arith, rules, ◌++◌, ap, sym, max, ℕ, List, Option, length}
 use Rattle.gtid_sets.specs.Position.{Position, with_gtid}
 use Rattle.gtid_sets.specs.declared.entry.Entry.{Entry}
-use Rattle.shard_calls.specs.Logs.{position_of, newest_row, place_of_row, rows_of}
+use Rattle.gtid_sets.specs.Logs.{position_of, newest_row, place_of_row, rows_of}
 use Rattle.shard_calls.proofs.LogLemmas.{position-push, newest-push}
 use Rattle.tablet_manager.specs.Rows.{place_after}
 use Rattle.tablet_manager.proofs.RowLemmas.{rows-push}

@@ -1,0 +1,4 @@
+pub mod WalkLemmas
+pub mod ExampleProofs
+pub mod TurnLemmas
+pub mod LookLemmas

@@ -1,0 +1,17 @@
+use Rattle.std.proofs.Common.{refl, ◌∙◌}
+use Rattle.courses.specs.Turns.{TurnEnded}
+use Rattle.courses.proofs.TurnLemmas.{released_only}
+use Rattle.courses.proofs.LookLemmas.{turned_all}
+use Rattle.courses.proofs.turn.Player.turn.Goals as goal
+
+pub returns-then-self-clause-turned : goal.returns-then-self-clause-turned
+returns-then-self-clause-turned g c = TurnEnded refl
+
+pub returns-clause-turned : goal.returns-clause-turned
+returns-clause-turned g c =
+    turned_all (g.P.Plays.course c.args.self.now.course) c.args.self.now.number (g.F.Floor.shown c.args.floor.now) (g.F.Floor.shown c.look.new.floor)
+    (g.F.Floor.shown c.act.new.floor) c.look.new.span.items c.act.result c.in_ok-look.ensures.looks c.act.ensures.acted
+
+pub act-requires-clause-released : goal.act-requires-clause-released
+act-requires-clause-released g c =
+    released_only c.args.self.now.number (g.F.Floor.shown c.args.floor.now) (g.F.Floor.shown c.look.new.floor) c.in_ok-look.ensures.looks.only ∙ c.requires.released

@@ -1,0 +1,76 @@
+//! How commands end.
+
+use crate::{Refusal, Standing, Why};
+use gtid_sets::{Gtid, GtidSet};
+use shard_base::Items;
+use shard_names::Alias;
+
+/// Why a tablet did not join a new primary.
+#[derive(Drop)]
+pub enum Left {
+    /// Its log has these transactions, which the primary's log has not.
+    Errant { extra: GtidSet },
+    /// The call was given up.
+    GivenUp(Why),
+    /// It has seen a later term.
+    StaleTerm { seen: u64 },
+    /// It has promised a later term.
+    PromisedAhead { promised: u64 },
+}
+
+/// A tablet that did not join a new primary.
+#[derive(Drop)]
+pub struct NotJoined {
+    pub alias: Alias,
+    pub left: Left,
+}
+
+/// How a command ended.
+#[derive(Drop)]
+pub enum CommandAnswer {
+    /// The tablet was promoted in this term. These did not join it.
+    Promoted {
+        alias: Alias,
+        term: u64,
+        left: Items<NotJoined>,
+    },
+    /// The tablet that the shard is to have as its primary is that already.
+    NothingToDo {
+        alias: Alias,
+    },
+    /// A promotion by other hands was recorded, in this term.
+    Recorded {
+        term: u64,
+    },
+    /// The command was refused. Where it tried to give the old primary its place back, `undone` says whether that worked.
+    Refused {
+        refusal: Refusal,
+        undone: Option<bool>,
+    },
+    /// The write is this transaction, which the tablet wrote in this term, and counts as committed.
+    Committed {
+        gtid: Gtid,
+        alias: Alias,
+        term: u64,
+    },
+    /// The tablet does not take the write, since it stands so.
+    NotPrimary {
+        alias: Alias,
+        stand: Standing,
+    },
+    /// The write found no primary recorded.
+    NoPrimaryRecorded,
+    /// The write is this transaction, and the tablet is no longer the primary of this term, in which it wrote it: whether it
+    /// stays, nobody can say.
+    Unknown {
+        gtid: Gtid,
+        alias: Alias,
+        term: u64,
+    },
+    /// The tablet stood so, and its log had this position, right after the command began.
+    Shown {
+        alias: Alias,
+        stand: Standing,
+        position: GtidSet,
+    },
+}

@@ -1,0 +1,359 @@
+-- What the cause of an answer says of the command, and which steps did what it rests on.
+use Rattle.std.proofs.Common.{◌≡◌, ◌<◌, ℕ, zero, suc, Bool, true, false, not, ◌&&◌, ◌||◌, ◌==◌, refl, ap, sym, subst, ◌∙◌, arith, cond, List, [], ◌∷◌, take, Option, Some, None, Result, Ok, Err, is_none, unwrap_or}
+use Rattle.std.proofs.lemmas.Bool.{false≢true}
+use Rattle.std.proofs.lemmas.Bool.Decides.{nat_tests}
+use Rattle.std.specs.List.{slice_get, list_any, cons_option}
+use Rattle.shard_names.specs.declared.alias.Alias.{Alias}
+use Rattle.shard_names.specs.declared.tablet.Tablet.{Tablet}
+use Rattle.shard_names.specs.Tablets.{alias_eq, tablet_of}
+use Rattle.shard_names.proofs.TabletLemmas.{both_left, both_right, alias_eq_is}
+use Rattle.gtid_sets.specs.declared.gtid.Gtid.{Gtid}
+use Rattle.gtid_sets.specs.Position.{Position}
+use Rattle.topo_lock.specs.Topology.{Topology, is_held_in, answer_take, answer_intend, answer_record}
+use Rattle.topo_lock.specs.declared.lock.LockTaken.{LockTaken}
+use Rattle.topo_lock.specs.declared.lock.TopoFault.{TopoFault}
+use Rattle.topo_lock.specs.declared.lock.TopoFault.TheVariants as faults
+use Rattle.shard_calls.specs.declared.command.Command.{Command}
+use Rattle.shard_calls.specs.declared.command.Command.TheVariants as commands
+use Rattle.shard_calls.specs.declared.ending.CommandAnswer.{CommandAnswer}
+use Rattle.shard_calls.specs.declared.ending.CommandAnswer.TheVariants as ends
+use Rattle.shard_calls.specs.declared.ending.NotJoined.{NotJoined}
+use Rattle.shard_calls.specs.declared.event.Event.{Event}
+use Rattle.shard_calls.specs.declared.event.Event.TheVariants as events
+use Rattle.shard_calls.specs.declared.event.Reply.{Reply}
+use Rattle.shard_calls.specs.declared.event.Reply.TheVariants as replies
+use Rattle.shard_calls.specs.declared.event.Step.{Step}
+use Rattle.shard_calls.specs.declared.outcome.Written.{Written}
+use Rattle.shard_calls.specs.declared.outcome.Written.TheVariants as writtens
+use Rattle.shard_calls.specs.declared.stand.Standing.{Standing}
+use Rattle.shard_calls.specs.declared.stand.Standing.TheVariants as standings
+use Rattle.shard_calls.specs.declared.state.Act.{Act}
+use Rattle.shard_calls.specs.declared.state.Act.TheVariants as acts
+use Rattle.shard_calls.specs.declared.state.CommandState.{CommandState}
+use Rattle.shard_calls.specs.Stands.{is_primary_of, standing_of}
+use Rattle.shard_calls.specs.Outcomes.{sendings}
+use Rattle.shard_calls.specs.World.{Config, World, open_command, term_of}
+use Rattle.shard_calls.specs.Causes.{standing_eq, is_some_of, is_promote, is_wait_told, is_promoted, is_told_so, came_to_in, leaves_out, wrote_this, is_told_act, says_not_primary, showed, has_command_cause, has_cause}
+use Rattle.shard_calls.specs.Locks.{taken_reply, by_term, seen_of, read_reply, topo_reply}
+use Rattle.shard_calls.specs.Deliveries.{if_declared}
+use Rattle.shard_calls.specs.Writes.{written_reply, write_reply, write_verdict, tell_of}
+use Rattle.shard_calls.specs.Table.{answer}
+use Rattle.shard_calls.specs.Answered.{taken_by_reply, read_by_reply, lost_by_reply, recorded_by_reply, not_primary_by_reply, told_by_reply, act_of, acts_of}
+
+-- ---- tests
+
+same_number : (m n : ℕ) → (m == n) ≡ true → m ≡ n
+same_number m n h = grind (arith, nat_tests)
+
+is_nothing : {A : Type 0} (o : Option A) → is_none o ≡ true → o ≡ None
+is_nothing None h = refl
+is_nothing (Some x) h = absurd (false≢true h)
+
+pub standing_is : (x y : Standing) → standing_eq x y ≡ true → x ≡ y
+standing_is standings.Down standings.Down h = refl
+standing_is standings.Down standings.Stopped h = absurd (false≢true h)
+standing_is standings.Down (standings.Primary u) h = absurd (false≢true h)
+standing_is standings.Down (standings.Demoted u other) h = absurd (false≢true h)
+standing_is standings.Down (standings.Replica b u) h = absurd (false≢true h)
+standing_is standings.Down (standings.Feeder u) h = absurd (false≢true h)
+standing_is standings.Stopped standings.Down h = absurd (false≢true h)
+standing_is standings.Stopped standings.Stopped h = refl
+standing_is standings.Stopped (standings.Primary u) h = absurd (false≢true h)
+standing_is standings.Stopped (standings.Demoted u other) h = absurd (false≢true h)
+standing_is standings.Stopped (standings.Replica b u) h = absurd (false≢true h)
+standing_is standings.Stopped (standings.Feeder u) h = absurd (false≢true h)
+standing_is (standings.Primary t) standings.Down h = absurd (false≢true h)
+standing_is (standings.Primary t) standings.Stopped h = absurd (false≢true h)
+standing_is (standings.Primary t) (standings.Primary u) h = ap (λ (n : ℕ). standings.Primary n) (same_number t u h)
+standing_is (standings.Primary t) (standings.Demoted u other) h = absurd (false≢true h)
+standing_is (standings.Primary t) (standings.Replica b u) h = absurd (false≢true h)
+standing_is (standings.Primary t) (standings.Feeder u) h = absurd (false≢true h)
+standing_is (standings.Demoted t by) standings.Down h = absurd (false≢true h)
+standing_is (standings.Demoted t by) standings.Stopped h = absurd (false≢true h)
+standing_is (standings.Demoted t by) (standings.Primary u) h = absurd (false≢true h)
+standing_is (standings.Demoted t by) (standings.Demoted u other) h =
+    ap (λ (n : ℕ). standings.Demoted n by) (same_number t u (both_left (t == u) (by == other) h)) ∙ ap (λ (n : ℕ). standings.Demoted u n) (same_number by other (both_right (t == u) (by == other) h))
+standing_is (standings.Demoted t by) (standings.Replica b u) h = absurd (false≢true h)
+standing_is (standings.Demoted t by) (standings.Feeder u) h = absurd (false≢true h)
+standing_is (standings.Replica a t) standings.Down h = absurd (false≢true h)
+standing_is (standings.Replica a t) standings.Stopped h = absurd (false≢true h)
+standing_is (standings.Replica a t) (standings.Primary u) h = absurd (false≢true h)
+standing_is (standings.Replica a t) (standings.Demoted u other) h = absurd (false≢true h)
+standing_is (standings.Replica a t) (standings.Replica b u) h =
+    ap (λ (x : Alias). standings.Replica x t) (alias_eq_is a b (both_left (alias_eq a b) (t == u) h)) ∙ ap (λ (n : ℕ). standings.Replica b n) (same_number t u (both_right (alias_eq a b) (t == u) h))
+standing_is (standings.Replica a t) (standings.Feeder u) h = absurd (false≢true h)
+standing_is (standings.Feeder t) standings.Down h = absurd (false≢true h)
+standing_is (standings.Feeder t) standings.Stopped h = absurd (false≢true h)
+standing_is (standings.Feeder t) (standings.Primary u) h = absurd (false≢true h)
+standing_is (standings.Feeder t) (standings.Demoted u other) h = absurd (false≢true h)
+standing_is (standings.Feeder t) (standings.Replica b u) h = absurd (false≢true h)
+standing_is (standings.Feeder t) (standings.Feeder u) h = ap (λ (n : ℕ). standings.Feeder n) (same_number t u h)
+
+-- ---- causes
+
+-- the open command that ends, and the cause
+pub record Ending (config : Config) (w : World) (o : Option CommandState) (x : CommandAnswer) : Type 0 where
+  pub state : CommandState
+  pub is_open : o ≡ Some state
+  pub cause : has_command_cause config w state state.command x ≡ true
+
+pub ending : (config : Config) (w : World) (o : Option CommandState) (x : CommandAnswer) → has_cause config w o x ≡ true → Ending config w o x
+ending config w None x h = absurd (false≢true h)
+ending config w (Some s) x h = record { state = s; is_open = refl; cause = h }
+
+pub committed_cause : (config : Config) (w : World) (s : CommandState) (command : Command) (g : Gtid) (a : Alias) (t : ℕ)
+    → has_command_cause config w s command (ends.Committed g a t) ≡ true → (wrote_this s.wrote g a t && list_any is_told_act s.acts) ≡ true
+committed_cause config w s (commands.Planned shard given avoid expected timeout allow_cross_cell) g a t h = absurd (false≢true h)
+committed_cause config w s (commands.External b) g a t h = absurd (false≢true h)
+committed_cause config w s (commands.Write to) g a t h = h
+committed_cause config w s (commands.Show b) g a t h = absurd (false≢true h)
+
+pub unknown_cause : (config : Config) (w : World) (s : CommandState) (command : Command) (g : Gtid) (a : Alias) (t : ℕ)
+    → has_command_cause config w s command (ends.Unknown g a t) ≡ true
+    → (wrote_this s.wrote g a t && not (list_any is_told_act s.acts) && not (is_primary_of (w.tablets a).stand t)) ≡ true
+unknown_cause config w s (commands.Planned shard given avoid expected timeout allow_cross_cell) g a t h = absurd (false≢true h)
+unknown_cause config w s (commands.External b) g a t h = absurd (false≢true h)
+unknown_cause config w s (commands.Write to) g a t h = h
+unknown_cause config w s (commands.Show b) g a t h = absurd (false≢true h)
+
+pub not_primary_cause : (config : Config) (w : World) (s : CommandState) (command : Command) (a : Alias) (at : Standing)
+    → has_command_cause config w s command (ends.NotPrimary a at) ≡ true → list_any (says_not_primary a at) s.acts ≡ true
+not_primary_cause config w s (commands.Planned shard given avoid expected timeout allow_cross_cell) a at h = absurd (false≢true h)
+not_primary_cause config w s (commands.External b) a at h = absurd (false≢true h)
+not_primary_cause config w s (commands.Write to) a at h = h
+not_primary_cause config w s (commands.Show b) a at h = absurd (false≢true h)
+
+pub no_primary_cause : (config : Config) (w : World) (s : CommandState) (command : Command) → has_command_cause config w s command ends.NoPrimaryRecorded ≡ true
+    → (command ≡ commands.Write None) × (s.opening.seen.recorded ≡ None)
+no_primary_cause config w s (commands.Planned shard given avoid expected timeout allow_cross_cell) h = absurd (false≢true h)
+no_primary_cause config w s (commands.External b) h = absurd (false≢true h)
+no_primary_cause config w s (commands.Write to) h = (
+  ap (λ (o : Option Alias). commands.Write o) (is_nothing to (both_left (is_none to) (is_none s.opening.seen.recorded) h)),
+  is_nothing s.opening.seen.recorded (both_right (is_none to) (is_none s.opening.seen.recorded) h),
+)
+no_primary_cause config w s (commands.Show b) h = absurd (false≢true h)
+
+pub shown_cause : (config : Config) (w : World) (s : CommandState) (command : Command) (a : Alias) (at : Standing) (p : Position)
+    → has_command_cause config w s command (ends.Shown a at p) ≡ true → (command ≡ commands.Show a) × (showed s.opening.shown at p ≡ true)
+shown_cause config w s (commands.Planned shard given avoid expected timeout allow_cross_cell) a at p h = absurd (false≢true h)
+shown_cause config w s (commands.External b) a at p h = absurd (false≢true h)
+shown_cause config w s (commands.Write to) a at p h = absurd (false≢true h)
+shown_cause config w s (commands.Show b) a at p h =
+    (ap (λ (x : Alias). commands.Show x) (alias_eq_is b a (both_left (alias_eq b a) (showed s.opening.shown at p) h)), both_right (alias_eq b a) (showed s.opening.shown at p) h)
+
+pub told_cause : (config : Config) (w : World) (s : CommandState) (command : Command) (a : Alias) (t : ℕ) (left : List NotJoined)
+    → has_command_cause config w s command (ends.Promoted a t left) ≡ true → came_to_in t is_wait_told a is_told_so (sendings w.post s.acts) ≡ true
+told_cause config w s (commands.Planned shard given avoid expected timeout allow_cross_cell) a t left h =
+    let first : Bool = is_some_of s.term t && came_to_in t is_promote a is_promoted (sendings w.post s.acts) in
+    let told : Bool = came_to_in t is_wait_told a is_told_so (sendings w.post s.acts) in
+    both_right first told (both_left (first && told) (leaves_out w.post a left s.acts) h)
+told_cause config w s (commands.External b) a t left h = absurd (false≢true h)
+told_cause config w s (commands.Write to) a t left h = absurd (false≢true h)
+told_cause config w s (commands.Show b) a t left h = absurd (false≢true h)
+
+-- ---- acts of a write
+
+abbrev pub is_of_write : Act → Bool
+is_of_write (acts.Taken term by) = false
+is_of_write (acts.Lost term) = false
+is_of_write (acts.Read seen) = false
+is_of_write (acts.Recorded a) = false
+is_of_write (acts.Sent k) = false
+is_of_write (acts.NotPrimary a at) = true
+is_of_write acts.Told = true
+is_of_write acts.Gone = true
+
+-- the step that did it
+pub data DoneBy (c : ℕ) : Event → Reply → Act → Type 0 where
+  ByTold : DoneBy c (events.Tell c) replies.Told acts.Told
+  ByGone : DoneBy c (events.Tell c) replies.Gone acts.Gone
+  ByRefusal : (a : Alias) (at : Standing) → DoneBy c (events.Write c a) (replies.NotPrimary at) (acts.NotPrimary a at)
+
+-- no act of a write
+abbrev Quiet : Option Act → Type 0
+Quiet o = (act : Act) → o ≡ Some act → is_of_write act ≡ true → ⊥
+
+quiet_none : Quiet None
+quiet_none act is h = let none : None ≡ Some act = is in cc
+
+quiet_some : (x : Act) → is_of_write x ≡ false → Quiet (Some x)
+quiet_some x other act is h = let same : x ≡ act = (let some : Some x ≡ Some act = is in cc) in false≢true (sym other ∙ ap is_of_write same ∙ h)
+
+quiet_own : (b : Bool) (o : Option Act) → Quiet o → Quiet (cond b o None)
+quiet_own true o h = h
+quiet_own false o h = quiet_none
+
+taken_quiet : (r : Result ℕ LockTaken) → Quiet (taken_by_reply (taken_reply r))
+taken_quiet (Ok t) = quiet_none
+taken_quiet (Err held) = quiet_some _ refl
+
+read_quiet : (topo : Topology) (o : Option ℕ) → Quiet (read_by_reply (by_term o replies.Ok (read_reply topo)))
+read_quiet topo None = quiet_none
+read_quiet topo (Some t) = of_test (is_held_in topo t)
+  where
+    of_test : (b : Bool) → Quiet (read_by_reply (cond b (replies.Read (seen_of topo)) (replies.Lost topo.term)))
+    of_test true = quiet_some _ refl
+    of_test false = quiet_some _ refl
+
+lost_quiet : (r : Result (Unit {0}) TopoFault) → Quiet (lost_by_reply (topo_reply r))
+lost_quiet (Ok u) = quiet_none
+lost_quiet (Err (faults.LockLost current)) = quiet_some _ refl
+lost_quiet (Err (faults.IntentStands b)) = quiet_none
+
+recorded_quiet : (a : Alias) (r : Result (Unit {0}) TopoFault) → Quiet (recorded_by_reply a (topo_reply r))
+recorded_quiet a (Ok u) = quiet_some _ refl
+recorded_quiet a (Err (faults.LockLost current)) = quiet_some _ refl
+recorded_quiet a (Err (faults.IntentStands b)) = quiet_none
+
+intend_quiet : (f : ℕ → Result (Unit {0}) TopoFault) (o : Option ℕ) → Quiet (lost_by_reply (by_term o replies.Ok (λ t. topo_reply (f t))))
+intend_quiet f None = quiet_none
+intend_quiet f (Some t) = lost_quiet (f t)
+
+record_quiet : (a : Alias) (f : ℕ → Result (Unit {0}) TopoFault) (o : Option ℕ) → Quiet (recorded_by_reply a (by_term o replies.Ok (λ t. topo_reply (f t))))
+record_quiet a f None = ok_quiet
+  where
+    ok_quiet : Quiet (recorded_by_reply a replies.Ok)
+    ok_quiet = quiet_some _ refl
+record_quiet a f (Some t) = recorded_quiet a (f t)
+
+-- an act of the command's own
+own_act : (P : ℕ → Act → Type 0) (d c : ℕ) (o : Option Act) (act : Act) → cond (d == c) o None ≡ Some act → (o ≡ Some act → P d act) → P c act
+own_act P d c o act is one = of_test (d == c) refl is
+  where
+    of_test : (b : Bool) → (d == c) ≡ b → cond b o None ≡ Some act → P c act
+    of_test true e h = subst (λ (n : ℕ). P n act) (same_number d c e) (one h)
+    of_test false e h = absurd (let none : None ≡ Some act = h in cc)
+
+refused : (c : ℕ) (a : Alias) (says : Written) (act : Act) → not_primary_by_reply a (written_reply says) ≡ Some act → DoneBy c (events.Write c a) (written_reply says) act
+refused c a (writtens.Entry g) act is = absurd (let none : None ≡ Some act = is in cc)
+refused c a (writtens.NotPrimary at) act is =
+    let same : acts.NotPrimary a (standing_of at) ≡ act = (let some : Some (acts.NotPrimary a (standing_of at)) ≡ Some act = is in cc) in
+    subst (λ (x : Act). DoneBy c (events.Write c a) (replies.NotPrimary (standing_of at)) x) same (ByRefusal a (standing_of at))
+
+declared_refused : (w : World) (c : ℕ) (a : Alias) (s : CommandState) (act : Act) (o : Option Tablet)
+    → not_primary_by_reply a (if_declared o replies.Ok (λ me. written_reply (write_verdict w a s me).says)) ≡ Some act
+    → DoneBy c (events.Write c a) (if_declared o replies.Ok (λ me. written_reply (write_verdict w a s me).says)) act
+declared_refused w c a s act None is = absurd (let none : None ≡ Some act = is in cc)
+declared_refused w c a s act (Some me) is = refused c a (write_verdict w a s me).says act is
+
+write_refused : (config : Config) (w : World) (c : ℕ) (a : Alias) (act : Act) (o : Option CommandState) → not_primary_by_reply a (write_reply config w a o) ≡ Some act
+    → DoneBy c (events.Write c a) (write_reply config w a o) act
+write_refused config w c a act None is = absurd (let none : None ≡ Some act = is in cc)
+write_refused config w c a act (Some s) is = declared_refused w c a s act (tablet_of config.tablets a) is
+
+told_done : (c : ℕ) (r : Reply) (act : Act) → told_by_reply r ≡ Some act → DoneBy c (events.Tell c) r act
+told_done c replies.Told act is = let same : acts.Told ≡ act = (let some : Some acts.Told ≡ Some act = is in cc) in subst (λ (x : Act). DoneBy c (events.Tell c) replies.Told x) same ByTold
+told_done c replies.Gone act is = let same : acts.Gone ≡ act = (let some : Some acts.Gone ≡ Some act = is in cc) in subst (λ (x : Act). DoneBy c (events.Tell c) replies.Gone x) same ByGone
+told_done c (replies.Begun command) act is = absurd (let none : None ≡ Some act = is in cc)
+told_done c (replies.Term term) act is = absurd (let none : None ≡ Some act = is in cc)
+told_done c (replies.Taken term by) act is = absurd (let none : None ≡ Some act = is in cc)
+told_done c (replies.Read seen) act is = absurd (let none : None ≡ Some act = is in cc)
+told_done c (replies.Lost term) act is = absurd (let none : None ≡ Some act = is in cc)
+told_done c (replies.Stands a) act is = absurd (let none : None ≡ Some act = is in cc)
+told_done c (replies.Message k) act is = absurd (let none : None ≡ Some act = is in cc)
+told_done c (replies.GaveUp why) act is = absurd (let none : None ≡ Some act = is in cc)
+told_done c (replies.Wrote g) act is = absurd (let none : None ≡ Some act = is in cc)
+told_done c (replies.NotPrimary at) act is = absurd (let none : None ≡ Some act = is in cc)
+told_done c replies.Ok act is = absurd (let none : None ≡ Some act = is in cc)
+
+-- which step did an act of a write
+pub done_by : (config : Config) (w : World) (c : ℕ) (e : Event) (act : Act) → act_of c e (answer config w e) ≡ Some act → is_of_write act ≡ true
+    → DoneBy c e (answer config w e) act
+done_by config w c (events.Begin name command) act is h = absurd (quiet_none act is h)
+done_by config w c (events.Release d) act is h = absurd (quiet_none act is h)
+done_by config w c events.Lapse act is h = absurd (quiet_none act is h)
+done_by config w c (events.Deliver k) act is h = absurd (quiet_none act is h)
+done_by config w c (events.GiveUp d k) act is h = absurd (quiet_none act is h)
+done_by config w c (events.Offer r) act is h = absurd (quiet_none act is h)
+done_by config w c (events.Local a) act is h = absurd (quiet_none act is h)
+done_by config w c (events.Crash a keep) act is h = absurd (quiet_none act is h)
+done_by config w c (events.Restart a) act is h = absurd (quiet_none act is h)
+done_by config w c (events.Cut x y) act is h = absurd (quiet_none act is h)
+done_by config w c (events.Mend x y) act is h = absurd (quiet_none act is h)
+done_by config w c (events.Lose k) act is h = absurd (quiet_none act is h)
+done_by config w c (events.Tick ms) act is h = absurd (quiet_none act is h)
+done_by config w c (events.End d x) act is h = absurd (quiet_none act is h)
+done_by config w c (events.Take d) act is h = absurd (quiet_own (d == c) _ (taken_quiet (answer_take w.topo)) act is h)
+done_by config w c (events.Read d) act is h = absurd (quiet_own (d == c) _ (read_quiet w.topo (term_of w d)) act is h)
+done_by config w c (events.Intend d a) act is h = absurd (quiet_own (d == c) _ (intend_quiet (λ t. answer_intend w.topo t a) (term_of w d)) act is h)
+done_by config w c (events.Record d a) act is h = absurd (quiet_own (d == c) _ (record_quiet a (λ t. answer_record w.topo t) (term_of w d)) act is h)
+done_by config w c (events.Send d a call) act is h = absurd (quiet_own (d == c) _ (quiet_some _ refl) act is h)
+done_by config w c (events.Write d a) act is h =
+    own_act (λ n x. DoneBy n (events.Write d a) (answer config w (events.Write d a)) x) d c _ act is (λ one. write_refused config w d a act (open_command w d) one)
+done_by config w c (events.Tell d) act is h =
+    own_act (λ n x. DoneBy n (events.Tell d) (answer config w (events.Tell d)) x) d c _ act is (λ one. told_done d (unwrap_or (tell_of w d) replies.Ok) act one)
+
+pub told_act : (act : Act) → is_told_act act ≡ true → (act ≡ acts.Told) × (is_of_write act ≡ true)
+told_act (acts.Taken term by) h = absurd (false≢true h)
+told_act (acts.Lost term) h = absurd (false≢true h)
+told_act (acts.Read seen) h = absurd (false≢true h)
+told_act (acts.Recorded a) h = absurd (false≢true h)
+told_act (acts.Sent k) h = absurd (false≢true h)
+told_act (acts.NotPrimary a at) h = absurd (false≢true h)
+told_act acts.Told h = (refl, refl)
+told_act acts.Gone h = absurd (false≢true h)
+
+pub refused_act : (a : Alias) (at : Standing) (act : Act) → says_not_primary a at act ≡ true → (act ≡ acts.NotPrimary a at) × (is_of_write act ≡ true)
+refused_act a at (acts.Taken term by) h = absurd (false≢true h)
+refused_act a at (acts.Lost term) h = absurd (false≢true h)
+refused_act a at (acts.Read seen) h = absurd (false≢true h)
+refused_act a at (acts.Recorded b) h = absurd (false≢true h)
+refused_act a at (acts.Sent k) h = absurd (false≢true h)
+refused_act a at (acts.NotPrimary b stand) h = (
+  ap (λ (x : Alias). acts.NotPrimary x stand) (alias_eq_is b a (both_left (alias_eq b a) (standing_eq stand at) h))
+      ∙ ap (λ (x : Standing). acts.NotPrimary a x) (standing_is stand at (both_right (alias_eq b a) (standing_eq stand at) h)),
+  refl,
+)
+refused_act a at acts.Told h = absurd (false≢true h)
+refused_act a at acts.Gone h = absurd (false≢true h)
+
+-- ---- acts and steps
+
+-- a step before step i that did an act of this kind
+pub record ActStep (c : ℕ) (p : Act → Bool) (ss : List Step) (i : ℕ) : Type 0 where
+  pub place : ℕ
+  pub earlier : place < i
+  pub step : Step
+  pub here : slice_get ss place ≡ Some step
+  pub act : Act
+  pub did : act_of c step.event step.reply ≡ Some act
+  pub passes : p act ≡ true
+
+deeper : (c : ℕ) (p : Act → Bool) (x : Step) (ss : List Step) (i : ℕ) → ActStep c p ss i → ActStep c p (x ∷ ss) (suc i)
+deeper c p x ss i h =
+    record { place = suc h.place; earlier = (let le = h.earlier in omega (arith, le)); step = h.step; here = h.here; act = h.act; did = h.did; passes = h.passes }
+
+pub act_step : (c : ℕ) (p : Act → Bool) (ss : List Step) (i : ℕ) → list_any p (acts_of c (take i ss)) ≡ true → ActStep c p ss i
+act_step c p [] zero h = absurd (false≢true h)
+act_step c p [] (suc i) h = absurd (false≢true h)
+act_step c p (x ∷ ss) zero h = absurd (false≢true h)
+act_step c p (x ∷ ss) (suc i) h = of_option (act_of c x.event x.reply) refl h (λ k. act_step c p ss i k)
+  where
+    of_test : (act : Act) (b : Bool) → act_of c x.event x.reply ≡ Some act → p act ≡ b → (b || list_any p (acts_of c (take i ss))) ≡ true
+        → (list_any p (acts_of c (take i ss)) ≡ true → ActStep c p ss i) → ActStep c p (x ∷ ss) (suc i)
+    of_test act true is passes k rest = record { place = 0; earlier = omega arith; step = x; here = refl; act = act; did = is; passes = passes }
+    of_test act false is passes k rest = deeper c p x ss i (rest k)
+
+    of_option : (o : Option Act) → act_of c x.event x.reply ≡ o → list_any p (cons_option o (acts_of c (take i ss))) ≡ true
+        → (list_any p (acts_of c (take i ss)) ≡ true → ActStep c p ss i) → ActStep c p (x ∷ ss) (suc i)
+    of_option None is k rest = deeper c p x ss i (rest k)
+    of_option (Some act) is k rest = of_test act (p act) is refl k rest
+
+-- a step before step i that did such an act
+pub step_act : (c : ℕ) (p : Act → Bool) (ss : List Step) (i k : ℕ) (s : Step) (act : Act) → k < i → slice_get ss k ≡ Some s → act_of c s.event s.reply ≡ Some act → p act ≡ true
+    → list_any p (acts_of c (take i ss)) ≡ true
+step_act c p ss zero k s act less here did is = absurd (omega (arith, less))
+step_act c p [] (suc i) k s act less here did is = absurd (let none : None ≡ Some s = here in cc)
+step_act c p (x ∷ ss) (suc i) zero s act less here did is =
+    let same : x ≡ s = (let some : Some x ≡ Some s = here in cc) in
+    let first : act_of c x.event x.reply ≡ Some act = ap (λ (y : Step). act_of c y.event y.reply) same ∙ did in
+    ap (λ (o : Option Act). list_any p (cons_option o (acts_of c (take i ss)))) first ∙ ap (λ (b : Bool). b || list_any p (acts_of c (take i ss))) is
+step_act c p (x ∷ ss) (suc i) (suc k) s act less here did is = of_option (act_of c x.event x.reply) (step_act c p ss i k s act (omega (arith, less)) here did is)
+  where
+    more : (b : Bool) → list_any p (acts_of c (take i ss)) ≡ true → (b || list_any p (acts_of c (take i ss))) ≡ true
+    more true h = refl
+    more false h = h
+
+    of_option : (o : Option Act) → list_any p (acts_of c (take i ss)) ≡ true → list_any p (cons_option o (acts_of c (take i ss))) ≡ true
+    of_option None h = h
+    of_option (Some y) h = more (p y) h

@@ -1,0 +1,73 @@
+-- What an answer says, as the steps before it show it. Answers are those of PlannedReparentShard, of a write and of a look at a tablet (Vitess manual);
+-- a client is told of its write once the entry counts as committed (MySQL 8.0 manual, "Semisynchronous Replication").
+use Rattle.std.specs.Prelude.{◌≡◌, ◌<◌, ⊤, ℕ, suc, List, Some, None, slice_get}
+use Rattle.shard_names.specs.declared.alias.Alias.{Alias}
+use Rattle.gtid_sets.specs.declared.entry.Entry.{Entry}
+use Rattle.gtid_sets.specs.declared.entry.Kind.TheVariants as kinds
+use Rattle.gtid_sets.specs.declared.gtid.Gtid.{Gtid}
+use Rattle.gtid_sets.specs.Position.{Position}
+use Rattle.gtid_sets.specs.Logs.{position_of}
+use Rattle.shard_calls.specs.declared.command.Command.{Command}
+use Rattle.shard_calls.specs.declared.command.Command.TheVariants as commands
+use Rattle.shard_calls.specs.declared.ending.CommandAnswer.{CommandAnswer}
+use Rattle.shard_calls.specs.declared.ending.CommandAnswer.TheVariants as ends
+use Rattle.shard_calls.specs.declared.event.Event.{Event}
+use Rattle.shard_calls.specs.declared.event.Event.TheVariants as events
+use Rattle.shard_calls.specs.declared.event.Reply.{Reply}
+use Rattle.shard_calls.specs.declared.event.Reply.TheVariants as replies
+use Rattle.shard_calls.specs.declared.event.Step.{Step}
+use Rattle.shard_calls.specs.declared.stand.Standing.{Standing}
+use Rattle.shard_calls.specs.Stands.{standing_of}
+use Rattle.shard_calls.specs.World.{Config, World}
+use Rattle.shard_calls.specs.Promotions.{world_at, IsTold}
+
+-- before step i there was a step of this event with this reply
+abbrev pub HadStep : List Step → ℕ → Event → Reply → Type 0
+HadStep steps i e r = (k : ℕ) × (k < i) × (slice_get steps k ≡ Some (record { event = e; reply = r }))
+
+-- before step i the row of the term, which names the tablet, was told
+pub record RowWasTold (config : Config) (steps : List Step) (i : ℕ) (a : Alias) (t : ℕ) : Type 0 where
+  pub step : ℕ
+  pub before : step < i
+  pub row : Entry
+  pub is_row : row.kind ≡ kinds.Row t a
+  pub told : IsTold config steps step row t
+
+-- before step i the command wrote the transaction at the tablet, and was told of its entry in the term
+pub record WriteWasTold (config : Config) (steps : List Step) (i c : ℕ) (g : Gtid) (a : Alias) (t : ℕ) : Type 0 where
+  pub wrote : HadStep steps i (events.Write c a) (replies.Wrote g)
+  pub step : ℕ
+  pub before : step < i
+  pub tells : slice_get steps step ≡ Some (record { event = events.Tell c; reply = replies.Told })
+  pub entry : Entry
+  pub is_entry : entry.gtid ≡ g
+  pub told : IsTold config steps step entry t
+
+-- before step i the command began as this one, and right after that the world was so
+pub record BeganIn (config : Config) (steps : List Step) (i c : ℕ) (command : Command) (Was : World → Type 0) : Type 0 where
+  pub step : ℕ
+  pub before : step < i
+  pub name : List ℕ
+  pub begins : slice_get steps step ≡ Some (record { event = events.Begin name command; reply = replies.Begun c })
+  pub world : Was (world_at config steps (suc step))
+
+-- the tablet stands so, and its log has this position
+abbrev pub StandsSo : Alias → Standing → Position → World → Type 0
+StandsSo a at p w = (standing_of (w.tablets a).stand ≡ at) × (position_of (w.tablets a).log ≡ p)
+
+-- what the steps before step i show of an answer of command c
+abbrev pub ShownBy : Config → List Step → ℕ → ℕ → CommandAnswer → Type 0
+ShownBy config steps i c (ends.Promoted a t left) = RowWasTold config steps i a t
+ShownBy config steps i c (ends.NothingToDo a) = ⊤
+ShownBy config steps i c (ends.Recorded t) = ⊤
+ShownBy config steps i c (ends.Refused refusal tried) = ⊤
+ShownBy config steps i c (ends.Committed g a t) = WriteWasTold config steps i c g a t
+ShownBy config steps i c (ends.NotPrimary a at) = HadStep steps i (events.Write c a) (replies.NotPrimary at)
+ShownBy config steps i c ends.NoPrimaryRecorded = BeganIn config steps i c (commands.Write None) (λ w. w.topo.recorded ≡ None)
+ShownBy config steps i c (ends.Unknown g a t) =
+    HadStep steps i (events.Write c a) (replies.Wrote g) × (HadStep steps i (events.Tell c) replies.Told → ⊥)
+ShownBy config steps i c (ends.Shown a at p) = BeganIn config steps i c (commands.Show a) (StandsSo a at p)
+
+-- each answer of a command is shown by the steps before it
+abbrev pub ShownBySteps : Config → List Step → Type 0
+ShownBySteps config steps = (i c : ℕ) (x : CommandAnswer) → slice_get steps i ≡ Some (record { event = events.End c x; reply = replies.Ok }) → ShownBy config steps i c x
