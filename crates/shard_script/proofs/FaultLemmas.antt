@@ -7,8 +7,9 @@ use Rattle.shard_script.specs.declared.script.Script.{Script}
 use Rattle.shard_script.specs.Script.{read_on, read_lines, with_bytes, empty_script, reading, lines_of, ended_lines, first_bytes, fault_behind}
 use Rattle.shard_script.specs.Grammar.{Spell, IsFirstFault, HasFault, FaultsAsSpelled}
 use Rattle.shard_script.specs.Grammar.HasFault.{in_short, in_long, too_long}
-use Rattle.shard_script.proofs.GrammarLemmas.{step_of, spell_of}
-use Rattle.shard_script.proofs.SpellLemmas.{step_on, read_of}
+use Rattle.shard_script.proofs.GrammarLemmas.{spell_of}
+use Rattle.shard_script.proofs.SpellLemmas.{read_of}
+use Rattle.shard_script.proofs.ToldLemmas.{step_of, step_on}
 
 -- where a reading came to its fault
 record Faulted (place : ℕ) (s : Script) (ls : List (List ℕ)) (at : ℕ) : Type 0 where

@@ -1,14 +1,13 @@
 -- What is read is what the grammar spells.
-use Rattle.std.proofs.Common.{◌≡◌, ◌≢◌, ℕ, ◌+◌, ◌≤◌, List, [], ◌∷◌, ◌++◌, Bool, true, false, cond, ltb, not, ◌&&◌, Option, Some, None, Ok, Err, length, refl, sym, ap, subst, ◌∙◌, arith}
+use Rattle.std.proofs.Common.{◌≡◌, ◌≢◌, ℕ, ◌+◌, ◌≤◌, List, [], ◌∷◌, ◌++◌, true, false, not, ◌&&◌, Option, Some, Ok, length, refl, sym, ap, subst, ◌∙◌, arith}
 use Rattle.std.specs.Prelude.{All, is_some, is_none, ◌==◌, nat_lt}
 use Rattle.std.specs.List.{AllZip}
 use Rattle.std.specs.List.Sorted.{IsPermutation}
 use Rattle.std.specs.Str.{bytes_eq}
 use Rattle.std.proofs.lemmas.Bool.{false≢true, eqb-true}
 use Rattle.std.proofs.lemmas.List.{append_assoc, append-nil, nil_from_length}
-use Rattle.std.proofs.lemmas.List.Elements.{All-nil, All-cons}
+use Rattle.std.proofs.lemmas.List.Elements.{All-nil, All-cons, All-head, All-tail}
 use Rattle.std.proofs.lemmas.List.Sorted.{IsPermutation-refl, IsPermutation-sym, IsPermutation-trans, IsPermutation-append_right, IsPermutation-middle, length_permutation}
-use borrow.Author.Tests.{ltb-false}
 use Rattle.shard_names.specs.declared.shard_name.ShardName.{ShardName}
 use Rattle.shard_names.specs.declared.tablet.Tablet.{Tablet as TabletData}
 use Rattle.shard_names.specs.Tablets.{alias_eq, ServersDiffer}
@@ -20,13 +19,14 @@ use Rattle.shard_script.specs.declared.line.Line.TheVariants.{Shard, Tablet, Act
 use Rattle.shard_script.specs.declared.script.Action.{Action}
 use Rattle.shard_script.specs.declared.script.Action.TheVariants as actions
 use Rattle.shard_script.specs.declared.script.Script.{Script}
-use Rattle.shard_script.specs.Script.{FitsShard, read_on, read_lines, with_bytes, admits, with_line, has_alias, has_server, in_place, empty_script}
-use Rattle.shard_script.specs.Grammar.{IsShardLine, IsTabletLine, IsActionLine, Says, AliasesDiffer, IsOfShard, IsShardScript, IsScript, Spell}
+use Rattle.shard_script.specs.Script.{FitsShard, read_on, read_lines, admits, with_line, has_alias, has_server, in_place, empty_script}
+use Rattle.shard_script.specs.Grammar.{IsShardLine, IsTabletLine, IsActionLine, Says, AliasesDiffer, IsOfShard, IsShardScript, IsScript, Spell, told_lines}
 use Rattle.shard_script.specs.Grammar.IsScript.{is_empty, is_shard_script}
 use Rattle.shard_script.proofs.OptionLemmas.{and_both, not_true}
 use Rattle.shard_script.proofs.LineLemmas.{says_of}
 use Rattle.shard_script.proofs.TabletsInOrder.{or_false, any-in_place, permuted-in_place, All-map}
 use Rattle.shard_script.proofs.ScriptLemmas.{line_with_bytes, fits_lines}
+use Rattle.shard_script.proofs.ToldLemmas.{Tells, all_tell, step_of, bytes_on, told_on}
 
 -- one tablet after another in its place
 abbrev pub placed : List TabletData → List TabletData → List TabletData
@@ -57,20 +57,6 @@ record Rest (s t : Script) (ls : List (List ℕ)) : Type 0 where
   are_new : All (IsNew s.tablets) declared
   aliases_differ : AliasesDiffer declared
   servers_differ : ServersDiffer declared
-
-pub record Step (place : ℕ) (s t : Script) (l : List ℕ) (ls : List (List ℕ)) : Type 0 where
-  pub next : Script
-  pub added : with_bytes s l ≡ Some next
-  pub room : place ≤ 1000
-  pub rest : read_on (place + 1) next ls ≡ Ok t
-
-step_by : (place : ℕ) (s t : Script) (l : List ℕ) (ls : List (List ℕ)) (b : Bool) (o : Option Script) → ltb 1000 place ≡ b → with_bytes s l ≡ o → (cond b (Err place) (elim o [ None ↦ Err place | Some u ↦ read_on (place + 1) u ls ])) ≡ Ok t → Step place s t l ls
-step_by place s t l ls true o past with got = absurd (cc)
-step_by place s t l ls false None past with got = absurd (cc)
-step_by place s t l ls false (Some u) past with got = record { next = u; added = with; room = omega (arith, ltb-false 1000 place past); rest = got }
-
-pub step_of : (place : ℕ) (s t : Script) (l : List ℕ) (ls : List (List ℕ)) → read_on place s (l ∷ ls) ≡ Ok t → Step place s t l ls
-step_of place s t l ls got = step_by place s t l ls (ltb 1000 place) (with_bytes s l) refl refl got
 
 shard_kept : (s : Script) (name : ShardName) (line : Line) → s.shard ≡ Some name → admits s line ≡ true → (with_line s line).shard ≡ Some name
 shard_kept s name (Shard n p) named ok = absurd (false≢true (ap (λ (o : Option ShardName). is_none o) (sym named) ∙ ok))
@@ -146,8 +132,8 @@ rest_with s t name l ls (Act x) named says ok r =
       servers_differ = tt;
     }
 
-rest_of : (place : ℕ) (s t : Script) (name : ShardName) (ls : List (List ℕ)) → s.shard ≡ Some name → read_on place s ls ≡ Ok t → Rest s t ls
-rest_of place s t name [] named got =
+rest_of : (place : ℕ) (s t : Script) (name : ShardName) (ls : List (List ℕ)) → All Tells ls → s.shard ≡ Some name → read_on place s ls ≡ Ok t → Rest s t ls
+rest_of place s t name [] tell named got =
     let same : s ≡ t = (let e : Ok s ≡ Ok t = got in cc) in
     subst (λ (x : Script). Rest s x []) same (record {
       tablet_lines = [];
@@ -166,11 +152,11 @@ rest_of place s t name [] named got =
       aliases_differ = tt;
       servers_differ = tt;
     })
-rest_of place s t name (l ∷ ls) named got =
+rest_of place s t name (l ∷ ls) tell named got =
     let step = step_of place s t l ls got in
-    let e = line_with_bytes s step.next l step.added in
+    let e = line_with_bytes s step.next l (All-head Tells l ls tell) step.added in
     let after : step.next.shard ≡ Some name = subst (λ (x : Script). x.shard ≡ Some name) e.3 (shard_kept s name e.0 named e.2) in
-    let r : Rest step.next t ls = rest_of (place + 1) step.next t name ls after step.rest in
+    let r : Rest step.next t ls = rest_of (place + 1) step.next t name ls (All-tail Tells l ls tell) after step.rest in
     rest_with s t name l ls e.0 named (says_of l e.0 e.1) e.2 (subst (λ (x : Script). Rest x t ls) (sym e.3) r)
 
 permuted : (ts ds : List TabletData) → IsPermutation (ds ++ ts) (placed ts ds)
@@ -212,16 +198,16 @@ first_line (Shard name policy) ok = (name, policy, refl)
 first_line (Tablet t) ok = absurd (false≢true ok)
 first_line (Act x) ok = absurd (false≢true ok)
 
-shard_script : (l : List ℕ) (ls : List (List ℕ)) (t : Script) → read_lines (l ∷ ls) ≡ Ok t → IsShardScript (l ∷ ls) t
-shard_script l ls t got =
+shard_script : (l : List ℕ) (ls : List (List ℕ)) (t : Script) → All Tells (l ∷ ls) → read_lines (l ∷ ls) ≡ Ok t → IsShardScript (l ∷ ls) t
+shard_script l ls t tell got =
     let fits = fits_lines (l ∷ ls) t got in
     let step = step_of 1 empty_script t l ls got in
-    let e = line_with_bytes empty_script step.next l step.added in
+    let e = line_with_bytes empty_script step.next l (All-head Tells l ls tell) step.added in
     let first = first_line e.0 e.2 in
     let says : IsShardLine l first.0 first.1 = subst (λ (x : Line). Says l x) first.2 (says_of l e.0 e.1) in
     let next : with_line empty_script (Shard first.0 first.1) ≡ step.next = subst (λ (x : Line). with_line empty_script x ≡ step.next) first.2 e.3 in
     let got_rest : read_on 2 (with_line empty_script (Shard first.0 first.1)) ls ≡ Ok t = subst (λ (x : Script). read_on 2 x ls ≡ Ok t) (sym next) step.rest in
-    let r = rest_of 2 (with_line empty_script (Shard first.0 first.1)) t first.0 ls refl got_rest in
+    let r = rest_of 2 (with_line empty_script (Shard first.0 first.1)) t first.0 ls (All-tail Tells l ls tell) refl got_rest in
     let tablets : IsPermutation r.declared t.tablets = subst (λ (xs : List TabletData). IsPermutation r.declared xs) (sym r.tablets) (permuted_all r.declared) in
     record {
       first = l;
@@ -253,9 +239,13 @@ few_on place s t (l ∷ ls) le got =
     let step = step_of place s t l ls got in
     omega (arith, few_on (place + 1) step.next t ls (omega (arith, step.room)) step.rest)
 
-script_of : (ls : List (List ℕ)) (t : Script) → read_lines ls ≡ Ok t → IsScript ls t
-script_of [] t got = is_empty refl (let e : Ok empty_script ≡ Ok t = got in cc)
-script_of (l ∷ ls) t got = is_shard_script (shard_script l ls t got)
+script_of : (ls : List (List ℕ)) (t : Script) → All Tells ls → read_lines ls ≡ Ok t → IsScript ls t
+script_of [] t tell got = is_empty refl (let e : Ok empty_script ≡ Ok t = got in cc)
+script_of (l ∷ ls) t tell got = is_shard_script (shard_script l ls t tell got)
 
 pub spell_of : (ls : List (List ℕ)) (t : Script) → read_lines ls ≡ Ok t → Spell ls t
-spell_of ls t got = record { few_lines = omega (arith, few_on 1 empty_script t ls (omega arith) got); script = script_of ls t got }
+spell_of ls t got = record {
+  few_lines = omega (arith, few_on 1 empty_script t ls (omega arith) got);
+  script_bytes = bytes_on 1 empty_script t ls got;
+  script = script_of (told_lines ls) t (all_tell ls) (told_on 1 1 empty_script t ls (omega arith) got);
+}

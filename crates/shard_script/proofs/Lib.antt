@@ -13,3 +13,5 @@ pub mod GrammarLemmas
 pub mod SpellLemmas
 pub mod FaultLemmas
 pub mod FrontLemmas
+pub mod ToldLemmas
+pub mod WordLemmas

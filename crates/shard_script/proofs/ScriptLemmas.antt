@@ -1,6 +1,7 @@
 -- Lines read one after another.
 use Rattle.std.proofs.Common.{◌≡◌, ℕ, ◌+◌, ◌<◌, ◌≤◌, List, [], ◌∷◌, ◌++◌, Bool, true, false, Option, Some, None, Result, Ok, Err, IfOk, cond, ltb, not, ◌&&◌, length, length-append, append-nil, subst, refl, sym, ap, ◌∙◌, arith}
 use Rattle.std.specs.Prelude.{All, is_some, is_none, ◌==◌, nat_lt, nat_le, ⊤}
+use Rattle.std.specs.List.{list_all}
 use Rattle.std.specs.Str.{bytes_eq}
 use Rattle.std.proofs.lemmas.Bool.{false≢true, eqb-true}
 use Rattle.std.proofs.lemmas.Bool.Decides.{nat_tests}
@@ -23,9 +24,9 @@ use Rattle.shard_script.specs.declared.script.Script.{Script}
 use Rattle.shard_script.specs.declared.script.ScriptFault.{ScriptFault}
 use Rattle.shard_script.specs.Names.{IsName, has_name, started_by, started, NamesDiffer, IsKnown, AreKnown}
 use Rattle.shard_script.specs.Aliases.{NamesDeclared, are_ends}
-use Rattle.shard_script.specs.Lines.{words_of, line_of}
-use Rattle.shard_script.specs.Grammar.{IsCommand, IsActionLine, Says}
-use Rattle.shard_script.specs.Script.{Gives, Fits, FitsShard, IsInTime, read_on, read_lines, with_bytes, reading, admits, admits_command, admits_name, admits_action, with_line, has_alias, has_server, all_declared, in_place, is_shard, empty_script, fault_behind, lines_of, ended_lines, first_bytes}
+use Rattle.shard_script.specs.Lines.{words_of, is_script_byte, say_nothing, line_of}
+use Rattle.shard_script.specs.Grammar.{IsCommand, IsActionLine, Says, HasScriptBytes}
+use Rattle.shard_script.specs.Script.{Gives, Fits, FitsShard, IsInTime, read_on, read_lines, with_bytes, with_words, reading, admits, admits_command, admits_name, admits_action, with_line, has_alias, has_server, all_declared, in_place, is_shard, empty_script, fault_behind, lines_of, ended_lines, first_bytes}
 use Rattle.shard_script.proofs.OptionLemmas.{and_both, not_true}
 use Rattle.shard_script.proofs.NameLemmas.{started_more, known_more, differ_more, known_is}
 use Rattle.shard_script.proofs.CommandLemmas.{in_time}
@@ -322,15 +323,53 @@ pub with_line_of : (s t : Script) (o : Option Line) → (elim o [ None ↦ None 
 with_line_of s t None got = absurd (cc)
 with_line_of s t (Some line) got = let e = admitted s t line (admits s line) got in (line, refl, e.0, e.1)
 
--- the bytes of a line spell one that may stand there
-pub line_with_bytes : (s t : Script) (bytes : List ℕ) → with_bytes s bytes ≡ Some t → (line : Line) × (line_of bytes ≡ Some line) × (admits s line ≡ true) × (with_line s line ≡ t)
+-- what a line was that was added: its bytes are a script's, and it says nothing or is one that may stand there
+added_by : (s t : Script) (b c : Bool) (o : Option Script) → cond (not b) None (cond c (Some s) o) ≡ Some t → (b ≡ true) × ((c ≡ true → s ≡ t) × (c ≡ false → o ≡ Some t))
+added_by s t true true o got = (refl, ((λ is. let e : Some s ≡ Some t = got in cc), (λ is. absurd (false≢true (sym is)))))
+added_by s t true false o got = (refl, ((λ is. absurd (false≢true is)), (λ is. got)))
+added_by s t false c o got = absurd (cc)
+
+added : (s t : Script) (bytes : List ℕ) → with_bytes s bytes ≡ Some t → (list_all is_script_byte bytes ≡ true) × ((say_nothing (words_of bytes) ≡ true → s ≡ t) × (say_nothing (words_of bytes) ≡ false → with_words s (words_of bytes) ≡ Some t))
 unfolding with_bytes
-line_with_bytes s t bytes got = with_line_of s t (line_of bytes) got
+added s t bytes got = added_by s t (list_all is_script_byte bytes) (say_nothing (words_of bytes)) (with_words s (words_of bytes)) got
+
+pub bytes_of_added : (s t : Script) (bytes : List ℕ) → with_bytes s bytes ≡ Some t → HasScriptBytes bytes
+bytes_of_added s t bytes got = (added s t bytes got).0
+
+pub same_with : (s t : Script) (bytes : List ℕ) → say_nothing (words_of bytes) ≡ true → with_bytes s bytes ≡ Some t → s ≡ t
+same_with s t bytes nothing got = (added s t bytes got).1.0 nothing
+
+-- the bytes of a line that says something spell one that may stand there
+pub line_with_bytes : (s t : Script) (bytes : List ℕ) → say_nothing (words_of bytes) ≡ false → with_bytes s bytes ≡ Some t → (line : Line) × (line_of bytes ≡ Some line) × (admits s line ≡ true) × (with_line s line ≡ t)
+unfolding with_words
+line_with_bytes s t bytes tells got = with_line_of s t (line_of bytes) ((added s t bytes got).1.1 tells)
+
+-- a line that says nothing
+passed : (place : ℕ) (s : Script) → SoFar place s → SoFar (place + 1) s
+passed place s h = record {
+  tablets = h.tablets;
+  few_tablets = h.few_tablets;
+  named = h.named;
+  unnamed = h.unnamed;
+  actions = h.actions;
+  in_time = h.in_time;
+  few = omega (arith, h.few);
+  declared = h.declared;
+  starts = h.starts;
+  are_names = h.are_names;
+  few_names = h.few_names;
+  names_differ = h.names_differ;
+  known = h.known;
+}
 
 one_more : (place : ℕ) (s t : Script) (bytes : List ℕ) → SoFar place s → with_bytes s bytes ≡ Some t → SoFar (place + 1) t
-one_more place s t bytes h got =
-    let e = line_with_bytes s t bytes got in
-    subst (λ (x : Script). SoFar (place + 1) x) e.3 (one_line place s e.0 (counted bytes e.0 (says_of bytes e.0 e.1)) h e.2)
+one_more place s t bytes h got = by_test (say_nothing (words_of bytes)) refl
+  where
+    by_test : (b : Bool) → say_nothing (words_of bytes) ≡ b → SoFar (place + 1) t
+    by_test true is = subst (λ (x : Script). SoFar (place + 1) x) (same_with s t bytes is got) (passed place s h)
+    by_test false is =
+        let e = line_with_bytes s t bytes is got in
+        subst (λ (x : Script). SoFar (place + 1) x) e.3 (one_line place s e.0 (counted bytes e.0 (says_of bytes e.0 e.1)) h e.2)
 
 on_more : (place : ℕ) (s t : Script) (l : List ℕ) (ls : List (List ℕ)) (b : Bool) (o : Option Script) → ltb 1000 place ≡ b → with_bytes s l ≡ o → SoFar place s → (cond b (Err place) (elim o [ None ↦ Err place | Some u ↦ read_on (place + 1) u ls ])) ≡ Ok t → ((u : Script) → SoFar (place + 1) u → place + 1 ≤ 1001 → read_on (place + 1) u ls ≡ Ok t → Fits t) → Fits t
 on_more place s t l ls true o past with h got rest = absurd (cc)

@@ -1,11 +1,11 @@
 -- What the grammar spells is read, and faults stand where it has none.
-use Rattle.std.proofs.Common.{◌≡◌, ◌≢◌, ℕ, suc, ◌+◌, ◌<◌, ◌≤◌, List, [], ◌∷◌, ◌++◌, Bool, true, false, cond, ltb, not, ◌&&◌, Option, Some, None, Result, Ok, Err, length, refl, sym, ap, subst, ◌∙◌, arith}
+use Rattle.std.proofs.Common.{◌≡◌, ◌≢◌, ℕ, suc, ◌+◌, ◌<◌, ◌≤◌, List, [], ◌∷◌, ◌++◌, Bool, true, false, cond, not, ◌&&◌, Option, Some, None, Ok, length, refl, sym, ap, subst, ◌∙◌, arith}
 use Rattle.std.specs.Prelude.{All, is_some, ◌==◌, nat_lt, nat_le}
 use Rattle.std.specs.List.{AllZip}
 use Rattle.std.specs.Str.{bytes_eq}
 use Rattle.std.proofs.lemmas.Bool.Decides.{nat_tests}
 use Rattle.std.proofs.lemmas.List.{append_assoc, append-nil, length-append}
-use Rattle.std.proofs.lemmas.List.Elements.{All-head, All-tail}
+use Rattle.std.proofs.lemmas.List.Elements.{All-head, All-tail, All-filter}
 use Rattle.std.proofs.lemmas.List.Sorted.{IsPermutation-sym, All-permutation}
 use Rattle.std.proofs.lemmas.Slice.Eq.{bytes_eq-Decides}
 use Rattle.shard_names.specs.declared.shard_name.ShardName.{ShardName}
@@ -21,8 +21,9 @@ use Rattle.shard_script.specs.declared.script.Action.TheVariants as actions
 use Rattle.shard_script.specs.declared.script.Script.{Script}
 use Rattle.shard_script.specs.Names.{has_name, started_by, started, NamesDiffer, IsKnown, AreKnown}
 use Rattle.shard_script.specs.Aliases.{NamesDeclared}
-use Rattle.shard_script.specs.Script.{read_on, read_lines, with_bytes, admits, admits_command, admits_name, admits_action, all_declared, with_line, has_alias, has_server, is_shard, shard_eq, in_place, empty_script, reading, lines_of, ended_lines, first_bytes, fault_behind}
-use Rattle.shard_script.specs.Grammar.{IsTabletLine, IsActionLine, Says, AliasesDiffer, IsCommandOf, IsOfShard, IsShardScript, IsScript, Spell, Spells, ReadsAsSpelled}
+use Rattle.shard_script.specs.Lines.{words_of, say_nothing}
+use Rattle.shard_script.specs.Script.{read_on, read_lines, with_bytes, with_words, admits, admits_command, admits_name, admits_action, all_declared, with_line, has_alias, has_server, is_shard, shard_eq, in_place, empty_script, reading, lines_of, ended_lines, first_bytes, fault_behind}
+use Rattle.shard_script.specs.Grammar.{IsTabletLine, IsActionLine, Says, AliasesDiffer, IsCommand, IsCommandOf, IsOfShard, IsShardScript, IsScript, told_lines, HasScriptBytes, Spell, Spells, ReadsAsSpelled}
 use Rattle.shard_script.specs.Grammar.IsScript.{is_empty, is_shard_script}
 use Rattle.shard_script.proofs.NameLemmas.{not_same, or_none, not_before, is_known}
 use Rattle.shard_script.proofs.LineReads.{of_says}
@@ -30,20 +31,51 @@ use Rattle.shard_script.proofs.TabletsInOrder.{any-in_place, rises_once, length-
 use Rattle.shard_script.proofs.DeclaredLemmas.{are_declared}
 use Rattle.shard_script.proofs.ScriptLemmas.{fits_lines, lines_read}
 use Rattle.shard_script.proofs.GrammarLemmas.{placed, IsNew, permuted_all, spell_of}
+use Rattle.shard_script.proofs.ToldLemmas.{Tells, step_on, all_on, fewer_told, All-split}
 
 -- ---- one line
 
-pub step_on : (place : ℕ) (s u : Script) (l : List ℕ) (ls : List (List ℕ)) → place ≤ 1000 → with_bytes s l ≡ Some u → read_on place s (l ∷ ls) ≡ read_on (place + 1) u ls
-step_on place s u l ls le added =
-    let room : ltb 1000 place ≡ false = grind (arith, nat_tests) in
-    ap (λ (b : Bool). let r : Result Script ℕ = cond b (Err place) (elim (with_bytes s l) [ None ↦ Err place | Some t ↦ read_on (place + 1) t ls ]) in r) room
-    ∙ ap (λ (o : Option Script). let r : Result Script ℕ = elim o [ None ↦ Err place | Some t ↦ read_on (place + 1) t ls ] in r) added
+-- a line that says its part is no comment
+command_tells : (words : List (List ℕ)) (command : Command) (n : ℕ) → IsCommand words command n → say_nothing words ≡ false
+command_tells words (Planned name given avoid expected timeout allow_cross_cell) n h = ap (λ (ws : List (List ℕ)). say_nothing ws) h.0.words_are
+command_tells words (External a) n h = absurd h
+command_tells words (Write None) n h = ap (λ (ws : List (List ℕ)). say_nothing ws) h.words_are
+command_tells words (Write (Some a)) n h = ap (λ (ws : List (List ℕ)). say_nothing ws) h.words_are
+command_tells words (Show a) n h = ap (λ (ws : List (List ℕ)). say_nothing ws) h.0.words_are
 
-added_is : (s : Script) (l : List ℕ) (line : Line) → Says l line → admits s line ≡ true → with_bytes s l ≡ Some (with_line s line)
-unfolding with_bytes
-added_is s l line says ok =
+action_tells : (l : List ℕ) (x : Action) → IsActionLine l x → Tells l
+action_tells l (actions.Play command n) h = command_tells (words_of l) command n h
+action_tells l (actions.Start name command) h = ap (λ (ws : List (List ℕ)). say_nothing ws) h.words
+action_tells l (actions.Turn name pumps) h = ap (λ (ws : List (List ℕ)). say_nothing ws) h.words
+action_tells l (actions.Finish name) h = ap (λ (ws : List (List ℕ)). say_nothing ws) h.words
+action_tells l actions.Settle h = ap (λ (ws : List (List ℕ)). say_nothing ws) h
+action_tells l (actions.Local a) h = ap (λ (ws : List (List ℕ)). say_nothing ws) h.words_are
+action_tells l (actions.Crash a keep) h = ap (λ (ws : List (List ℕ)). say_nothing ws) h.words
+action_tells l (actions.Restart a) h = ap (λ (ws : List (List ℕ)). say_nothing ws) h.words_are
+action_tells l (actions.Cut x y) h = ap (λ (ws : List (List ℕ)). say_nothing ws) h.words
+action_tells l (actions.Mend x y) h = ap (λ (ws : List (List ℕ)). say_nothing ws) h.words
+action_tells l (actions.Lose message) h = ap (λ (ws : List (List ℕ)). say_nothing ws) h.words
+action_tells l (actions.Repeat message) h = ap (λ (ws : List (List ℕ)). say_nothing ws) h.words
+action_tells l actions.Lapse h = ap (λ (ws : List (List ℕ)). say_nothing ws) h
+action_tells l (actions.Tick ms) h = ap (λ (ws : List (List ℕ)). say_nothing ws) h.words
+
+says_tells : (l : List ℕ) (line : Line) → Says l line → Tells l
+says_tells l (Shard name policy) h = ap (λ (ws : List (List ℕ)). say_nothing ws) h.words
+says_tells l (Tablet t) h = ap (λ (ws : List (List ℕ)). say_nothing ws) h.words
+says_tells l (Act x) h = action_tells l x h
+
+with_words_is : (s : Script) (l : List ℕ) (line : Line) → Says l line → admits s line ≡ true → with_words s (words_of l) ≡ Some (with_line s line)
+unfolding with_words
+with_words_is s l line says ok =
     ap (λ (o : Option Line). let r : Option Script = elim o [ None ↦ None | Some x ↦ cond (admits s x) (Some (with_line s x)) None ] in r) (of_says l line says)
     ∙ ap (λ (b : Bool). cond b (Some (with_line s line)) None) ok
+
+added_is : (s : Script) (l : List ℕ) (line : Line) → HasScriptBytes l → Says l line → admits s line ≡ true → with_bytes s l ≡ Some (with_line s line)
+unfolding with_bytes
+added_is s l line bytes says ok =
+    ap (λ (b : Bool). let r : Option Script = cond (not b) None (cond (say_nothing (words_of l)) (Some s) (with_words s (words_of l))) in r) bytes
+    ∙ ap (λ (b : Bool). cond b (Some s) (with_words s (words_of l))) (says_tells l line says)
+    ∙ with_words_is s l line says ok
 
 -- ---- the tablets' lines
 
@@ -64,18 +96,18 @@ tablet_admitted s name t named none few new =
     (ap (λ (b : Bool). not b) new.alias))
     (ap (λ (b : Bool). not b) new.server)
 
-tablets_on : (place : ℕ) (s : Script) (name : ShardName) (tl al : List (List ℕ)) (ds : List TabletData) → AllZip IsTabletLine tl ds → s.shard ≡ Some name → s.actions ≡ [] → length s.tablets + length ds ≤ 32 → All (IsNew s.tablets) ds → AliasesDiffer ds → ServersDiffer ds → place + length tl ≤ 1001 → read_on place s (tl ++ al) ≡ read_on (place + length tl) (record s { tablets = placed s.tablets ds }) al
-tablets_on place s name [] al [] said named none few new aliases servers lines = let e : place ≡ place + 0 = omega arith in ap (λ (n : ℕ). read_on n s al) e
-tablets_on place s name [] al (d ∷ ds) said named none few new aliases servers lines = absurd said
-tablets_on place s name (l ∷ tl) al [] said named none few new aliases servers lines = absurd said
-tablets_on place s name (l ∷ tl) al (d ∷ ds) said named none few new aliases servers lines =
+tablets_on : (place : ℕ) (s : Script) (name : ShardName) (tl al : List (List ℕ)) (ds : List TabletData) → AllZip IsTabletLine tl ds → All HasScriptBytes tl → s.shard ≡ Some name → s.actions ≡ [] → length s.tablets + length ds ≤ 32 → All (IsNew s.tablets) ds → AliasesDiffer ds → ServersDiffer ds → place + length tl ≤ 1001 → read_on place s (tl ++ al) ≡ read_on (place + length tl) (record s { tablets = placed s.tablets ds }) al
+tablets_on place s name [] al [] said bytes named none few new aliases servers lines = let e : place ≡ place + 0 = omega arith in ap (λ (n : ℕ). read_on n s al) e
+tablets_on place s name [] al (d ∷ ds) said bytes named none few new aliases servers lines = absurd said
+tablets_on place s name (l ∷ tl) al [] said bytes named none few new aliases servers lines = absurd said
+tablets_on place s name (l ∷ tl) al (d ∷ ds) said bytes named none few new aliases servers lines =
     let u : Script = with_line s (Tablet d) in
     let ok : admits s (Tablet d) ≡ true = tablet_admitted s name d named none (omega arith) (All-head (IsNew s.tablets) d ds new) in
     let others : All (IsNew s.tablets) ds = All-tail (IsNew s.tablets) d ds new in
     let after : All (IsNew (in_place d s.tablets)) ds = λ k x lt. new_after d s.tablets _ (others k x lt) (aliases.0 k x lt) (servers.0 k x lt) in
     let count : (place + 1) + length tl ≡ place + suc (length tl) = omega arith in
-    step_on place s u l (tl ++ al) (omega arith) (added_is s l (Tablet d) said.0 ok)
-    ∙ tablets_on (place + 1) u name tl al ds said.1 named none (omega (arith, few, length-in_place d s.tablets)) after aliases.1 servers.1 (omega arith)
+    step_on place s u l (tl ++ al) (omega arith) (added_is s l (Tablet d) (All-head HasScriptBytes l tl bytes) said.0 ok)
+    ∙ tablets_on (place + 1) u name tl al ds said.1 (All-tail HasScriptBytes l tl bytes) named none (omega (arith, few, length-in_place d s.tablets)) after aliases.1 servers.1 (omega arith)
     ∙ ap (λ (n : ℕ). read_on n (record s { tablets = placed (in_place d s.tablets) ds }) al) count
 
 -- ---- the actions' lines
@@ -113,35 +145,37 @@ action_allowed s name (actions.Repeat message) ns named of known differ few = re
 action_allowed s name actions.Lapse ns named of known differ few = refl
 action_allowed s name (actions.Tick ms) ns named of known differ few = refl
 
-actions_on : (place : ℕ) (s : Script) (name : ShardName) (al : List (List ℕ)) (xs : List Action) → AllZip IsActionLine al xs → s.shard ≡ Some name → All (IsOfShard name) xs → All (NamesDeclared s.tablets) xs → AreKnown s.names xs → NamesDiffer (s.names ++ started xs) → length (s.names ++ started xs) ≤ 16 → place + length al ≤ 1001 → read_on place s al ≡ Ok (record s { names = s.names ++ started xs; actions = s.actions ++ xs })
-actions_on place s name [] [] said named of declared known differ few lines =
+actions_on : (place : ℕ) (s : Script) (name : ShardName) (al : List (List ℕ)) (xs : List Action) → AllZip IsActionLine al xs → All HasScriptBytes al → s.shard ≡ Some name → All (IsOfShard name) xs → All (NamesDeclared s.tablets) xs → AreKnown s.names xs → NamesDiffer (s.names ++ started xs) → length (s.names ++ started xs) ≤ 16 → place + length al ≤ 1001 → read_on place s al ≡ Ok (record s { names = s.names ++ started xs; actions = s.actions ++ xs })
+actions_on place s name [] [] said bytes named of declared known differ few lines =
     let names : s.names ≡ s.names ++ [] = sym (append-nil s.names) in
     let done : s.actions ≡ s.actions ++ [] = sym (append-nil s.actions) in
     λ i. Ok (record s { names = names i; actions = done i })
-actions_on place s name [] (x ∷ xs) said named of declared known differ few lines = absurd said
-actions_on place s name (l ∷ al) [] said named of declared known differ few lines = absurd said
-actions_on place s name (l ∷ al) (x ∷ xs) said named of declared known differ few lines =
+actions_on place s name [] (x ∷ xs) said bytes named of declared known differ few lines = absurd said
+actions_on place s name (l ∷ al) [] said bytes named of declared known differ few lines = absurd said
+actions_on place s name (l ∷ al) (x ∷ xs) said bytes named of declared known differ few lines =
     let u : Script = with_line s (Act x) in
     let allowed : (is_some s.shard && admits_action s x) ≡ true = both (is_some s.shard) (admits_action s x) (ap (λ (o : Option ShardName). is_some o) named) (action_allowed s name x (started xs) named (All-head (IsOfShard name) x xs of) known.0 differ few) in
     let ok : admits s (Act x) ≡ true = both (is_some s.shard && admits_action s x) (all_declared s.tablets x) allowed (are_declared s.tablets x (All-head (NamesDeclared s.tablets) x xs declared)) in
     let names : (s.names ++ started_by x) ++ started xs ≡ s.names ++ (started_by x ++ started xs) = append_assoc s.names (started_by x) (started xs) in
     let join : (s.actions ++ x ∷ []) ++ xs ≡ s.actions ++ x ∷ xs = append_assoc s.actions (x ∷ []) xs in
     let whole : Ok (record s { names = (s.names ++ started_by x) ++ started xs; actions = (s.actions ++ x ∷ []) ++ xs }) ≡ Ok (record s { names = s.names ++ (started_by x ++ started xs); actions = s.actions ++ x ∷ xs }) = λ i. Ok (record s { names = names i; actions = join i }) in
-    step_on place s u l al (omega arith) (added_is s l (Act x) said.0 ok)
-    ∙ actions_on (place + 1) u name al xs said.1 named (All-tail (IsOfShard name) x xs of) (All-tail (NamesDeclared s.tablets) x xs declared) known.1 (subst NamesDiffer (sym names) differ) (subst (λ (ns : List (List ℕ)). length ns ≤ 16) (sym names) few) (omega arith)
+    step_on place s u l al (omega arith) (added_is s l (Act x) (All-head HasScriptBytes l al bytes) said.0 ok)
+    ∙ actions_on (place + 1) u name al xs said.1 (All-tail HasScriptBytes l al bytes) named (All-tail (IsOfShard name) x xs of) (All-tail (NamesDeclared s.tablets) x xs declared) known.1 (subst NamesDiffer (sym names) differ) (subst (λ (ns : List (List ℕ)). length ns ≤ 16) (sym names) few) (omega arith)
     ∙ whole
 
 -- ---- all lines
 
-shard_read : (lines : List (List ℕ)) (s : Script) → length lines ≤ 1000 → IsShardScript lines s → read_lines lines ≡ Ok s
-shard_read lines s few g =
+shard_read : (lines : List (List ℕ)) (s : Script) → length lines ≤ 1000 → All HasScriptBytes lines → IsShardScript lines s → read_lines lines ≡ Ok s
+shard_read lines s few bytes g =
+    let all_bytes : All HasScriptBytes (g.first ∷ (g.tablet_lines ++ g.action_lines)) = subst (λ (ls : List (List ℕ)). All HasScriptBytes ls) g.split bytes in
+    let rest_bytes = All-split HasScriptBytes g.tablet_lines g.action_lines (All-tail HasScriptBytes g.first (g.tablet_lines ++ g.action_lines) all_bytes) in
     let named : Script = with_line empty_script (Shard g.name s.policy) in
     let size : length (g.tablet_lines ++ g.action_lines) ≡ length g.tablet_lines + length g.action_lines = length-append g.tablet_lines g.action_lines in
     let all_lines : length lines ≡ suc (length (g.tablet_lines ++ g.action_lines)) = ap (λ (ls : List (List ℕ)). length ls) g.split in
     let tablets : Script = record named { tablets = placed [] g.declared } in
     let declared : (al : List (List ℕ)) → read_lines (g.first ∷ (g.tablet_lines ++ al)) ≡ read_on (2 + length g.tablet_lines) tablets al = λ al.
-    step_on 1 empty_script named g.first (g.tablet_lines ++ al) (omega arith) (added_is empty_script g.first (Shard g.name s.policy) g.says_shard refl)
-    ∙ tablets_on 2 named g.name g.tablet_lines al g.declared g.say_tablets refl refl (omega (arith, g.few_tablets)) (λ k d lt. record { alias = refl; server = refl }) g.aliases_differ g.servers_differ (omega (arith, few, size, all_lines)) in
+    step_on 1 empty_script named g.first (g.tablet_lines ++ al) (omega arith) (added_is empty_script g.first (Shard g.name s.policy) (All-head HasScriptBytes g.first (g.tablet_lines ++ g.action_lines) all_bytes) g.says_shard refl)
+    ∙ tablets_on 2 named g.name g.tablet_lines al g.declared g.say_tablets rest_bytes.0 refl refl (omega (arith, g.few_tablets)) (λ k d lt. record { alias = refl; server = refl }) g.aliases_differ g.servers_differ (omega (arith, few, size, all_lines)) in
     let rise : AliasesRise (placed [] g.declared) = (fits_lines (g.first ∷ (g.tablet_lines ++ [])) tablets (declared [])).tablets.in_order in
     let here = permuted_all g.declared in
     let same : placed [] g.declared ≡ s.tablets = rises_once (placed [] g.declared) s.tablets rise g.in_order
@@ -150,18 +184,21 @@ shard_read lines s few g =
     let got : read_lines lines ≡ Ok (record { shard = Some g.name; policy = s.policy; tablets = placed [] g.declared; names = started s.actions; actions = s.actions }) =
     ap (λ (ls : List (List ℕ)). read_lines ls) g.split
     ∙ declared g.action_lines
-    ∙ actions_on (2 + length g.tablet_lines) tablets g.name g.action_lines s.actions g.say_actions refl g.of_shard (subst (λ (ts : List TabletData). All (NamesDeclared ts) s.actions) (sym same) g.are_declared) g.known (subst NamesDiffer g.names g.names_differ) (subst (λ (ns : List (List ℕ)). length ns ≤ 16) g.names g.few_names) (omega (arith, few, size, all_lines)) in
+    ∙ actions_on (2 + length g.tablet_lines) tablets g.name g.action_lines s.actions g.say_actions rest_bytes.1 refl g.of_shard (subst (λ (ts : List TabletData). All (NamesDeclared ts) s.actions) (sym same) g.are_declared) g.known (subst NamesDiffer g.names g.names_differ) (subst (λ (ns : List (List ℕ)). length ns ≤ 16) g.names g.few_names) (omega (arith, few, size, all_lines)) in
     let shard : Some g.name ≡ s.shard = sym g.shard in
     let names : started s.actions ≡ s.names = sym g.names in
     let whole : record { shard = Some g.name; policy = s.policy; tablets = placed [] g.declared; names = started s.actions; actions = s.actions } ≡ s = λ i. record { shard = shard i; policy = s.policy; tablets = same i; names = names i; actions = s.actions } in
     got ∙ ap (λ (t : Script). Ok t) whole
 
-script_read : (lines : List (List ℕ)) (s : Script) → length lines ≤ 1000 → IsScript lines s → read_lines lines ≡ Ok s
-script_read lines s few (is_empty none is) = ap (λ (ls : List (List ℕ)). read_lines ls) none ∙ ap (λ (t : Script). Ok t) (sym is)
-script_read lines s few (is_shard_script g) = shard_read lines s few g
+script_read : (lines : List (List ℕ)) (s : Script) → length lines ≤ 1000 → All HasScriptBytes lines → IsScript lines s → read_lines lines ≡ Ok s
+script_read lines s few bytes (is_empty none is) = ap (λ (ls : List (List ℕ)). read_lines ls) none ∙ ap (λ (t : Script). Ok t) (sym is)
+script_read lines s few bytes (is_shard_script g) = shard_read lines s few bytes g
 
 pub read_of : (lines : List (List ℕ)) (s : Script) → Spell lines s → read_lines lines ≡ Ok s
-read_of lines s h = script_read lines s h.few_lines h.script
+read_of lines s h =
+    let short = fewer_told lines in
+    let bytes : All HasScriptBytes (told_lines lines) = All-filter (λ l. not (say_nothing (words_of l))) HasScriptBytes lines h.script_bytes in
+    all_on 1 1 empty_script s lines (omega (arith, h.few_lines)) h.script_bytes (script_read (told_lines lines) s (omega (arith, short, h.few_lines)) bytes h.script)
 
 pub reads_as_spelled : ReadsAsSpelled
 unfolding reading

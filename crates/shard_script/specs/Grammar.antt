@@ -1,5 +1,5 @@
--- The grammar of a script: what each line says, and which lines make a script. The words of a line are parted by single spaces.
-use Rattle.std.specs.Prelude.{◌≡◌, ◌≢◌, ◌↔◌, ℕ, ◌+◌, ◌-◌, ◌*◌, ◌^◌, ◌<◌, ◌≤◌, List, [], ◌∷◌, ◌++◌, true, Some, None, Ok, Err, length, take, All, codes, ⊤}
+-- The grammar of a script: what each line says, and which lines make a script. The words of a line are parted by spaces and tabs.
+use Rattle.std.specs.Prelude.{◌≡◌, ◌≢◌, ◌↔◌, ℕ, ◌+◌, ◌-◌, ◌*◌, ◌^◌, ◌<◌, ◌≤◌, List, [], ◌∷◌, ◌++◌, true, Some, None, Ok, Err, length, take, filter, not, All, codes, ⊤}
 use Rattle.std.specs.Char.{is_ascii_digit}
 use Rattle.std.specs.List.{list_all, AllZip}
 use Rattle.std.specs.List.Sorted.{IsPermutation}
@@ -26,7 +26,7 @@ use Rattle.shard_script.specs.declared.script.Script.{Script}
 use Rattle.shard_script.specs.Names.{IsName, started, NamesDiffer, AreKnown}
 use Rattle.shard_script.specs.Aliases.{NamesDeclared, are_ends}
 use Rattle.shard_script.specs.Commands.{reparent_to}
-use Rattle.shard_script.specs.Lines.{words_of, server_reading}
+use Rattle.shard_script.specs.Lines.{words_of, is_script_byte, say_nothing, server_reading}
 use Rattle.shard_script.specs.Script.{empty_script, lines_of, ended_lines, first_bytes, reading}
 
 -- `shard K/S POLICY`: one of the five, by its name
@@ -265,10 +265,19 @@ pub data IsScript (lines : List (List ℕ)) (s : Script) : Type 0 where
   is_empty : lines ≡ [] → s ≡ empty_script → IsScript lines s
   is_shard_script : IsShardScript lines s → IsScript lines s
 
--- at most 1,000 lines that make a script
+-- without the lines that say nothing: those without a word, and comments, whose first word begins with `#`
+abbrev pub told_lines : List (List ℕ) → List (List ℕ)
+told_lines lines = filter (λ l. not (say_nothing (words_of l))) lines
+
+-- a line of printable ASCII and tabs
+abbrev pub HasScriptBytes : List ℕ → Type 0
+HasScriptBytes line = list_all is_script_byte line ≡ true
+
+-- at most 1,000 lines, of which those that say something make a script
 pub record Spell (lines : List (List ℕ)) (s : Script) : Type 0 where
   pub few_lines : length lines ≤ 1000
-  pub script : IsScript lines s
+  pub script_bytes : All HasScriptBytes lines
+  pub script : IsScript (told_lines lines) s
 
 -- a text of at most 65,536 bytes whose lines make a script
 pub record Spells (text : List ℕ) (s : Script) : Type 0 where

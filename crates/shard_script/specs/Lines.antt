@@ -1,5 +1,5 @@
--- The lines of a script, one by one: words parted by single spaces, with the names and UUIDs of the Vitess manual's commands.
-use Rattle.std.specs.Prelude.{ℕ, List, [], ◌∷◌, ◌==◌, Option, Some, None, if◌then◌else◌, length, slice_index_or, find, codes}
+-- The lines of a script, one by one: words parted by spaces and tabs, with the names and UUIDs of the Vitess manual's commands.
+use Rattle.std.specs.Prelude.{ℕ, List, [], ◌∷◌, ◌==◌, Bool, true, false, ◌&&◌, ◌||◌, not, nat_le, filter, Option, Some, None, if◌then◌else◌, length, slice_index_or, find, codes}
 use Rattle.std.specs.List.{slice_split}
 use Rattle.std.specs.Result.{result_ok}
 use Rattle.std.specs.Str.{bytes_eq}
@@ -28,9 +28,31 @@ use Rattle.shard_script.specs.Commands.{command_of_two, command_of_four}
 abbrev pub parts_of : ℕ → List ℕ → List (List ℕ)
 parts_of separator bytes = slice_split (λ b. b == separator) bytes
 
--- the words of a line, which are parted by spaces
+-- a space or a tab
+abbrev pub is_blank : ℕ → Bool
+is_blank b = (b == 32) || (b == 9)
+
+-- the parts between single blanks
+abbrev pub blank_parts : List ℕ → List (List ℕ)
+blank_parts bytes = slice_split is_blank bytes
+
+-- the words of a line, which are parted by blanks
 abbrev pub words_of : List ℕ → List (List ℕ)
-words_of bytes = parts_of 32 bytes
+words_of bytes = filter (λ w. not (length w == 0)) (blank_parts bytes)
+
+-- printable ASCII, or a tab
+abbrev pub is_script_byte : ℕ → Bool
+is_script_byte b = (nat_le 32 b && nat_le b 126) || (b == 9)
+
+-- a comment's first word begins with `#`
+abbrev pub begins_comment : List ℕ → Bool
+begins_comment [] = false
+begins_comment (b ∷ bs) = b == 35
+
+-- whether words say nothing: there are none, or they are a comment
+abbrev pub say_nothing : List (List ℕ) → Bool
+say_nothing [] = true
+say_nothing (w ∷ ws) = begins_comment w
 
 -- a UUID in the hyphenated form, in either case
 unfoldable pub server_reading : List ℕ → Option (List ℕ)

@@ -20,7 +20,7 @@ use Rattle.shard_script.specs.declared.script.ScriptFault.{ScriptFault}
 use Rattle.shard_script.specs.declared.script.ScriptFault.TheVariants as faults
 use Rattle.shard_script.specs.Names.{IsName, has_name, started_by, started, NamesDiffer, AreKnown}
 use Rattle.shard_script.specs.Aliases.{aliases_of, NamesDeclared, are_ends}
-use Rattle.shard_script.specs.Lines.{parts_of, line_of}
+use Rattle.shard_script.specs.Lines.{parts_of, words_of, is_script_byte, say_nothing, line_of_words}
 
 -- whether a tablet has this alias
 abbrev pub has_alias : List TabletData → Alias → Bool
@@ -102,9 +102,16 @@ with_line s (Act action) = record s { names = s.names ++ started_by action; acti
 abbrev pub empty_script : Script
 empty_script = record { shard = None; policy = policies.None; tablets = []; names = []; actions = [] }
 
--- the script with one more line, if it may stand there
+-- the script with the line that words spell, if it may stand there
+unfoldable pub with_words : Script → List (List ℕ) → Option Script
+with_words s words = elim (line_of_words words) [ None ↦ None | Some line ↦ if admits s line then Some (with_line s line) else None ]
+
+-- The script with one more line, if it may stand there. A line that says nothing leaves the script as it is.
 unfoldable pub with_bytes : Script → List ℕ → Option Script
-with_bytes s bytes = elim (line_of bytes) [ None ↦ None | Some line ↦ if admits s line then Some (with_line s line) else None ]
+with_bytes s bytes =
+    if not (list_all is_script_byte bytes) then None
+    else if say_nothing (words_of bytes) then Some s
+    else with_words s (words_of bytes)
 
 -- The script with more lines, of which the first has this place; or the place of the first line that may not stand there. At most 1,000 lines may.
 abbrev pub read_on : ℕ → Script → List (List ℕ) → Result Script ℕ
@@ -121,13 +128,35 @@ abbrev pub without_empty_end : List (List ℕ) → List (List ℕ)
 without_empty_end parts =
     if length (slice_index_or parts (length parts - 1) []) == 0 then take (length parts - 1) parts else parts
 
--- the lines of a text: the last may lack its newline
+-- what stands between newlines: the last may be lacking
+abbrev pub all_parts : List ℕ → List (List ℕ)
+all_parts text = without_empty_end (parts_of 10 text)
+
+-- what stands before newlines
+abbrev pub ended_parts : List ℕ → List (List ℕ)
+ended_parts text = take (length (parts_of 10 text) - 1) (parts_of 10 text)
+
+-- whether a newline comes first
+abbrev pub begins_newline : List ℕ → Bool
+begins_newline [] = false
+begins_newline (b ∷ bs) = b == 10
+
+-- a byte that others stand behind, unless it is a carriage return before a newline
+abbrev pub kept_byte : ℕ → List ℕ → List ℕ
+kept_byte b bs = if (b == 13) && begins_newline bs then [] else b ∷ []
+
+-- a text without the carriage returns that stand before newlines
+abbrev pub without_returns : List ℕ → List ℕ
+without_returns [] = []
+without_returns (b ∷ bs) = kept_byte b bs ++ without_returns bs
+
+-- The lines of a text: the last may lack its newline. A carriage return before a newline is dropped.
 abbrev pub lines_of : List ℕ → List (List ℕ)
-lines_of text = without_empty_end (parts_of 10 text)
+lines_of text = all_parts (without_returns text)
 
 -- the lines of a text that have their newline
 abbrev pub ended_lines : List ℕ → List (List ℕ)
-ended_lines text = take (length (parts_of 10 text) - 1) (parts_of 10 text)
+ended_lines text = ended_parts (without_returns text)
 
 -- as many bytes as a script may have
 unfoldable pub first_bytes : List ℕ → List ℕ

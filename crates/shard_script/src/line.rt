@@ -1,9 +1,9 @@
-ghost use Rattle.std.specs.Prelude.{◌≡◌, ◌==◌, map, length, IfOk};
+ghost use Rattle.std.specs.Prelude.{◌≡◌, ◌==◌, map, filter, not, length, IfOk};
 ghost use Rattle.std.specs.List.{list_all};
 ghost use Rattle.shard_script.specs.Names.{is_name_byte, begins_with_letter, is_taken, name_reading};
 ghost use Rattle.shard_script.specs.Aliases.{are_ends};
 ghost use Rattle.shard_script.specs.Commands.{command_of_two, command_of_four};
-ghost use Rattle.shard_script.specs.Lines.{parts_of, server_reading, kind_reading, policy_reading, shard_line, tablet_line, play_line, start_line, turn_line, finish_line, tick_line, local_line, crash_line, restart_line, side_reading, link_reading, cut_line, mend_line, lose_line, repeat_line, one_word, tablet_or_message, two_words, three_words, four_words, six_words, line_of_words, line_of};
+ghost use Rattle.shard_script.specs.Lines.{parts_of, is_blank, blank_parts, words_of, is_script_byte, begins_comment, say_nothing, server_reading, kind_reading, policy_reading, shard_line, tablet_line, play_line, start_line, turn_line, finish_line, tick_line, local_line, crash_line, restart_line, side_reading, link_reading, cut_line, mend_line, lose_line, repeat_line, one_word, tablet_or_message, two_words, three_words, four_words, six_words, line_of_words};
 
 use crate::command::{Given, command_of_four, command_of_two};
 use crate::number::{read_duration, read_number, read_within};
@@ -385,8 +385,9 @@ fn six_words(head: &[u8], a: &[u8], b: &[u8], c: &[u8], d: &[u8], e: &[u8]) -> O
     }
 }
 
+/// The line that words spell.
 #[tactic(auto, unfolding(crate::specs::Lines::line_of_words))]
-fn line_of_words(words: &[&[u8]]) -> Option<Line>
+pub fn line_of_words(words: &[&[u8]]) -> Option<Line>
     ensures { result ≡ line_of_words (map (λ w. w.now) words.now) }
 {
     if words.len() == 1 {
@@ -417,10 +418,58 @@ pub fn parts_of(alloc: Global, bytes: &[u8], separator: u8) -> Result<Vec<&[u8]>
     Ok(collect_parts(alloc, bytes, separator)?)
 }
 
-/// The line that the bytes spell, its words parted by single spaces.
-pub fn read_line(alloc: Global, bytes: &[u8]) -> Result<Option<Line>, OutOfMemory>
-    ensures { IfOk result (λ line. line ≡ line_of bytes.now) }
+fn is_blank(byte: u8) -> bool
+    ensures { result ≡ is_blank byte }
 {
-    let words = parts_of(alloc, bytes, b' ')?;
-    Ok(line_of_words(&words))
+    byte == b' ' || byte == b'\t'
+}
+
+fn blank_parts(alloc: Global, bytes: &[u8]) -> Result<Vec<&[u8]>, AllocError>
+    ensures { IfOk result (λ parts. map (λ p. p.now) parts.items ≡ blank_parts bytes.now) }
+{
+    bytes.split(|byte| is_blank(*byte)).collect(alloc)
+}
+
+fn drop_empty(parts: &mut Vec<&[u8]>)
+    ensures { parts.new.items ≡ filter (λ p. not (length p.now == 0)) parts.old.items }
+{
+    parts.retain(|part| !part.is_empty());
+}
+
+/// The words of a line, which are parted by spaces and tabs.
+pub fn words_of(alloc: Global, bytes: &[u8]) -> Result<Vec<&[u8]>, OutOfMemory>
+    ensures { IfOk result (λ words. map (λ w. w.now) words.items ≡ words_of bytes.now) }
+{
+    let mut words = blank_parts(alloc, bytes)?;
+    drop_empty(&mut words);
+    Ok(words)
+}
+
+fn is_script_byte(byte: u8) -> bool
+    ensures { result ≡ is_script_byte byte }
+{
+    (b' ' <= byte && byte <= b'~') || byte == b'\t'
+}
+
+/// Whether a line has printable ASCII and tabs alone.
+pub fn has_script_bytes(bytes: &[u8]) -> bool
+    ensures { result ≡ list_all is_script_byte bytes.now }
+{
+    bytes.iter().all(|byte| is_script_byte(*byte))
+}
+
+fn begins_comment(word: &[u8]) -> bool
+    ensures { result ≡ begins_comment word.now }
+{
+    word.first().is_some_and(|byte| *byte == b'#')
+}
+
+/// Whether there are no words, or those of a comment.
+pub fn say_nothing(words: &[&[u8]]) -> bool
+    ensures { result ≡ say_nothing (map (λ w. w.now) words.now) }
+{
+    match words.first() {
+        Some(word) => begins_comment(word),
+        None => true,
+    }
 }

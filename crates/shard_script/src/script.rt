@@ -1,12 +1,12 @@
-ghost use Rattle.std.specs.Prelude.{◌≡◌, ◌≤◌, ◌<◌, ◌==◌, [], ◌∷◌, ◌++◌, map, position, length, IfOk, IfSome, OnOk, Some, None, if◌then◌else◌};
+ghost use Rattle.std.specs.Prelude.{◌≡◌, ◌≤◌, ◌<◌, ◌==◌, ◌&&◌, [], ◌∷◌, ◌++◌, map, position, length, IfOk, IfSome, OnOk, Some, None, if◌then◌else◌};
 ghost use Rattle.std.specs.List.{list_all};
 ghost use Rattle.std.specs.Str.{bytes_eq};
 ghost use Rattle.shard_names.specs.Tablets.{alias_eq};
 ghost use Rattle.shard_script.specs.Names.{has_name, started_by};
 ghost use Rattle.shard_script.specs.Aliases.{aliases_in, aliases_at};
-ghost use Rattle.shard_script.specs.Script.{all_declared, first_bytes, place_among, has_alias, has_server, shard_eq, is_shard, is_below, in_place, admits_tablet, admits_command, admits_name, admits_action, admits, with_line, with_bytes, lines_of, ended_lines, read_on, read_lines, reading, Gives, Fits};
+ghost use Rattle.shard_script.specs.Script.{all_declared, first_bytes, place_among, has_alias, has_server, shard_eq, is_shard, is_below, in_place, admits_tablet, admits_command, admits_name, admits_action, admits, with_line, with_words, with_bytes, begins_newline, kept_byte, without_returns, all_parts, ended_parts, lines_of, ended_lines, read_on, read_lines, fault_behind, reading, Gives, Fits};
 
-use crate::line::{Line, parts_of, read_line};
+use crate::line::{Line, has_script_bytes, line_of_words, parts_of, say_nothing, words_of};
 use durability::Durability;
 use shard_base::{Items, OutOfMemory};
 use shard_calls::{Command, Side};
@@ -345,20 +345,72 @@ fn with_line(script: Script, line: Line) -> Result<Script, OutOfMemory>
     })
 }
 
-/// The script with the line that the bytes spell, if it may stand there.
-#[tactic(auto, unfolding(crate::specs::Script::with_bytes))]
-fn with_bytes(alloc: Global, script: Script, bytes: &[u8]) -> Result<Option<Script>, OutOfMemory>
-    ensures { IfOk result (λ new. new ≡ with_bytes script bytes.now) }
+/// The script with the line that the words spell, if it may stand there.
+#[tactic(auto, unfolding(crate::specs::Script::with_words))]
+fn with_words(script: Script, words: &[&[u8]]) -> Result<Option<Script>, OutOfMemory>
+    ensures { IfOk result (λ new. new ≡ with_words script (map (λ w. w.now) words.now)) }
 {
-    match read_line(alloc, bytes)? {
+    match line_of_words(words) {
         Some(line) if admits(&script, &line) => Ok(Some(with_line(script, line)?)),
         _ => Ok(None),
     }
 }
 
-/// The lines of a text. The last may lack its newline.
-fn lines_of(alloc: Global, text: &[u8]) -> Result<Vec<&[u8]>, OutOfMemory>
-    ensures { IfOk result (λ lines. map (λ l. l.now) lines.items ≡ lines_of text.now) }
+/// The script with the line that the bytes spell, if it may stand there.
+#[tactic(auto, unfolding(crate::specs::Script::with_bytes))]
+fn with_bytes(alloc: Global, script: Script, bytes: &[u8]) -> Result<Option<Script>, OutOfMemory>
+    ensures { IfOk result (λ new. new ≡ with_bytes script bytes.now) }
+{
+    if !has_script_bytes(bytes) {
+        return Ok(None);
+    }
+    let words = words_of(alloc, bytes)?;
+    if say_nothing(&words) {
+        return Ok(Some(script));
+    }
+    with_words(script, &words)
+}
+
+fn begins_newline(text: &[u8]) -> bool
+    ensures { result ≡ begins_newline text.now }
+{
+    text.first().is_some_and(|byte| *byte == b'\n')
+}
+
+/// Whether the byte is a carriage return before a newline.
+fn is_dropped(byte: u8, rest: &[u8]) -> bool
+    ensures { result ≡ ((byte == 13) && begins_newline rest.now) }
+{
+    byte == b'\r' && begins_newline(rest)
+}
+
+/// Adds a byte that others stand behind, unless it is a carriage return before a newline.
+fn push_kept(plain: &mut Vec<u8>, byte: u8, rest: &[u8]) -> Result<(), OutOfMemory>
+    ensures { OnOk result (plain.new.items ≡ plain.old.items ++ kept_byte byte rest.now) }
+{
+    if is_dropped(byte, rest) {
+        return Ok(());
+    }
+    plain.push(byte)?;
+    Ok(())
+}
+
+/// A text without the carriage returns that stand before newlines.
+fn without_returns(alloc: Global, text: &[u8]) -> Result<Vec<u8>, OutOfMemory>
+    ensures { IfOk result (λ plain. plain.items ≡ without_returns text.now) }
+{
+    let mut plain = Vec::new(alloc);
+    let mut left = text;
+    while let Some((byte, rest)) = left.split_first() {
+        push_kept(&mut plain, *byte, rest)?;
+        left = rest;
+    }
+    Ok(plain)
+}
+
+/// What stands between newlines. The last may be lacking.
+fn all_parts(alloc: Global, text: &[u8]) -> Result<Vec<&[u8]>, OutOfMemory>
+    ensures { IfOk result (λ lines. map (λ l. l.now) lines.items ≡ all_parts text.now) }
 {
     let mut lines = parts_of(alloc, text, b'\n')?;
     let count = lines.len();
@@ -368,9 +420,9 @@ fn lines_of(alloc: Global, text: &[u8]) -> Result<Vec<&[u8]>, OutOfMemory>
     Ok(lines)
 }
 
-/// The lines of a text that have their newline.
-fn ended_lines(alloc: Global, text: &[u8]) -> Result<Vec<&[u8]>, OutOfMemory>
-    ensures { IfOk result (λ lines. map (λ l. l.now) lines.items ≡ ended_lines text.now) }
+/// What stands before newlines.
+fn ended_parts(alloc: Global, text: &[u8]) -> Result<Vec<&[u8]>, OutOfMemory>
+    ensures { IfOk result (λ lines. map (λ l. l.now) lines.items ≡ ended_parts text.now) }
 {
     let mut lines = parts_of(alloc, text, b'\n')?;
     let _rest = lines.pop();
@@ -408,19 +460,35 @@ fn first_bytes(text: &[u8]) -> &[u8]
     &text[..MOST_BYTES]
 }
 
+/// The script that a text of no more bytes spells.
+fn read_short(alloc: Global, text: &[u8]) -> Result<Script, ScriptFault>
+    ensures { Gives result (read_lines (lines_of text.now)) }
+{
+    let plain = without_returns(alloc, text)?;
+    let lines = all_parts(alloc, &plain)?;
+    read_lines(alloc, &lines)
+}
+
+/// The first fault of a longer text, of which these are the first bytes.
+fn read_cut(alloc: Global, text: &[u8]) -> Result<Script, ScriptFault>
+    ensures { Gives result (fault_behind (ended_lines text.now) (read_lines (ended_lines text.now))) }
+{
+    let plain = without_returns(alloc, text)?;
+    let lines = ended_parts(alloc, &plain)?;
+    match read_lines(alloc, &lines) {
+        Ok(_) => Err(ScriptFault::Line(lines.len() as u64 + 1)),
+        Err(fault) => Err(fault),
+    }
+}
+
 #[tactic(auto, unfolding(crate::specs::Script::reading))]
 fn read_whole(alloc: Global, text: &[u8]) -> Result<Script, ScriptFault>
     ensures { Gives result (reading text.now) }
 {
     if text.len() <= MOST_BYTES {
-        let lines = lines_of(alloc, text)?;
-        return read_lines(alloc, &lines);
+        return read_short(alloc, text);
     }
-    let lines = ended_lines(alloc, first_bytes(text))?;
-    match read_lines(alloc, &lines) {
-        Ok(_) => Err(ScriptFault::Line(lines.len() as u64 + 1)),
-        Err(fault) => Err(fault),
-    }
+    read_cut(alloc, first_bytes(text))
 }
 
 /// The script that a text spells, or the first line that may not stand there.

@@ -154,3 +154,34 @@ fn finds_the_line_with_a_fault(rt: HostRuntime) -> Result<(), Fail> {
     }
     Ok(())
 }
+
+#[test]
+fn passes_over_comments(rt: HostRuntime) -> Result<(), Fail> {
+    let texts = [
+        b"# a story\n\nwrite 1\n".as_slice(),
+        b"  # indented\n\t#\n \t \nsettle".as_slice(),
+        b"#no word of its own\nlapse\r\n".as_slice(),
+        b"write\t1\n  write  1\t\nshow zone1-100 \r\n".as_slice(),
+    ];
+    for text in texts {
+        assert_eq!(rt; fault_of(rt.alloc(), text)?, None);
+    }
+    Ok(())
+}
+
+#[test]
+fn counts_lines_that_are_passed_over(rt: HostRuntime) -> Result<(), Fail> {
+    let faults = [
+        (b"# a story\n\nwrit 1".as_slice(), 6),
+        (b"write 1 # twice".as_slice(), 4),
+        (b"# caf\xc3\xa9\nwrite 1".as_slice(), 4),
+        (b"write 1\r".as_slice(), 4),
+        (b"settle\r\r\n".as_slice(), 4),
+        (b"set\rtle\n".as_slice(), 4),
+        (b"\x0bsettle\n".as_slice(), 4),
+    ];
+    for (text, place) in faults {
+        assert_eq!(rt; fault_of(rt.alloc(), text)?, Some(place));
+    }
+    Ok(())
+}

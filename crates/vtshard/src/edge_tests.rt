@@ -56,6 +56,43 @@ fn a_fault_is_on_its_line(rt: HostRuntime) -> Result<(), Fail> {
 }
 
 #[test]
+fn comments_are_passed_over(rt: HostRuntime) -> Result<(), Fail> {
+    let rows = [
+        // Comments, tabs and carriage returns change nothing.
+        Row {
+            script: &[
+                "# A first run.\r\n\r\n",
+                THREE_REPLICAS,
+                "\t# One is promoted.\r
+\tPlannedReparentShard  commerce/0\t--new-primary zone1-100\t\r
+ \t
+write\t2\r
+#write 1
+# The end.",
+            ],
+            printed: "PlannedReparentShard commerce/0: promoted zone1-0000000100 in term 1
+write: committed 00000000-0000-4000-8000-000000000100:2 on zone1-0000000100 in term 1
+write: committed 00000000-0000-4000-8000-000000000100:3 on zone1-0000000100 in term 1
+",
+            status: 0,
+        },
+        // They are counted.
+        Row {
+            script: &["# A story.\n\n", THREE_REPLICAS, "write 1 # twice\n"],
+            printed: "script fault: line 7 code 13\n",
+            status: 3,
+        },
+        // Nothing stands in a comment that may not stand in a script.
+        Row {
+            script: &["# café\n"],
+            printed: "script fault: line 1 code 13\n",
+            status: 3,
+        },
+    ];
+    plays(&rt, rt.alloc(), &rows)
+}
+
+#[test]
 fn a_position_has_many_transactions(rt: HostRuntime) -> Result<(), Fail> {
     let rows = [Row {
         script: &[
