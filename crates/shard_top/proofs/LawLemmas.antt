@@ -183,7 +183,7 @@ note_on config w (moves.Notes refused q) p r P h = h.1
 note_on config w (moves.Blocked name) p r P h = absurd h
 note_on config w moves.Over p r P h = absurd h
 
-run_more : (config : Config) (w : World) (ss : List Step) (s : Step) → IsRunFrom config w ss → IsStep config (world_after config w ss) s → IsRunFrom config w (ss ++ s ∷ [])
+pub run_more : (config : Config) (w : World) (ss : List Step) (s : Step) → IsRunFrom config w ss → IsStep config (world_after config w ss) s → IsRunFrom config w (ss ++ s ∷ [])
 run_more config w [] s run step = (step, tt)
 run_more config w (x ∷ ss) s run step = (run.0, run_more config (after config w x.event) ss s run.1 step)
 

@@ -1,6 +1,9 @@
 pub mod StreamLemmas
 pub mod LongerLemmas
 pub mod EndedLemmas
+pub mod OwnLemmas
+pub mod ProgramLemmas
+pub mod ProgramMoves
 pub mod FairLemmas
 pub mod LeavingLemmas
 pub mod PlayingLemmas
@@ -9,3 +12,4 @@ pub mod RestLemmas
 pub mod TopLemmas
 pub mod LawLemmas
 pub mod WantLemmas
+pub mod ProgramRuns

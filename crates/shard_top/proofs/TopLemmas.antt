@@ -31,6 +31,8 @@ use Rattle.shard_top.proofs.LongerLemmas.{steps_append, notes_append}
 use Rattle.shard_top.proofs.RestLemmas.{plays_to_stop}
 use Rattle.shard_top.proofs.LawLemmas.{notes_in_place}
 use Rattle.shard_top.proofs.WantLemmas.{runs_plainly}
+use Rattle.shard_top.specs.Programs.{program, own}
+use Rattle.shard_top.proofs.ProgramRuns.{own_front, own_all}
 
 -- ---- nothing written, nothing kept
 
@@ -78,8 +80,17 @@ plainly s stop history notes h not_full none = record {
   of_notes = h.of_notes;
 }
 
-is_made : (s : Script) (stop : Stop) (history : List Step) (notes : List Note) → HasRun s history notes stop → IsAnswerOf s (made_answer s stop history notes)
-is_made s stop history notes run = record { stop = stop; played = run; plain = plainly s stop history notes run; status = refl; config = refl; written = refl }
+is_made : (s : Script) (stop : Stop) (history : List Step) (notes : List Note) → Fits s → HasRun s history notes stop → IsAnswerOf s (made_answer s stop history notes)
+is_made s stop history notes fits run = record {
+  stop = stop;
+  played = run;
+  plain = plainly s stop history notes run;
+  status = refl;
+  config = refl;
+  written = refl;
+  own_front = λ actor. subst (λ (ss : List Step). IsFront (own ss actor) (program s actor)) run.of_steps (own_front s run.wants run.made stop fits run.run actor);
+  own_all = λ over actor. subst (λ (ss : List Step). own ss actor ≡ program s actor) run.of_steps (own_all s run.wants run.made stop fits run.run over actor);
+}
 
 run_is : (s : Script) (wants : List Want) (made : List Made) (stop : Stop) → IsRunOf s wants made stop → HasRun s (steps_of made) (notes_of made) stop
 run_is s wants made stop run = record { wants = wants; made = made; run = run; of_steps = refl; of_notes = refl }
@@ -94,16 +105,16 @@ stand_in_place s k steps notes stop is same run =
 abbrev SomeAnswer : (Answer → Type 0) → Type 0
 SomeAnswer P = (a : Answer) × P a × AreTablets a.config.tablets
 
-of_script : (s : Script) → AreTablets s.tablets → SomeAnswer (λ a. IsAnswerOf s a)
+of_script : (s : Script) → Fits s → SomeAnswer (λ a. IsAnswerOf s a)
 of_script s h =
     let w = plays_to_stop s [] [] (omega arith) (omega arith) tt in (
       made_answer s w.1.0 (steps_of w.0) (notes_of w.0),
-      is_made s w.1.0 (steps_of w.0) (notes_of w.0) (run_is s [] w.0 w.1.0 w.1.1),
-      h,
+      is_made s w.1.0 (steps_of w.0) (notes_of w.0) h (run_is s [] w.0 w.1.0 w.1.1),
+      h.tablets,
     )
 
 of_reading : (r : Result Script ℕ) → ((s : Script) → r ≡ Ok s → Fits s) → SomeAnswer (λ a. IsAnswerToReading r a)
-of_reading (Ok s) h = of_script s (h s refl).tablets
+of_reading (Ok s) h = of_script s (h s refl)
 of_reading (Err place) h = (fault_answer 3 (fault_text place), refl, no_tablets)
 
 of_text : (text : List ℕ) → SomeAnswer (λ a. IsAnswerToReading (reading text) a)
@@ -134,7 +145,7 @@ gave_up_by : (P : Answer → Type 0) (calm : Type 0) (status : ℕ) (history : L
     → Answered P calm status history notes o o
 gave_up_by P calm status history notes o some is none unnoted = (some.0, some.1, gave_up some.0 calm status history notes o is none unnoted some.2)
 
-pub gave_up_script : (s : Script) (calm : Type 0) (status : ℕ) (history : List Step) (notes : List Note) (o : Option (List ℕ)) → AreTablets s.tablets → status ≡ 6 → history ≡ [] → notes ≡ []
+pub gave_up_script : (s : Script) (calm : Type 0) (status : ℕ) (history : List Step) (notes : List Note) (o : Option (List ℕ)) → Fits s → status ≡ 6 → history ≡ [] → notes ≡ []
     → Answered (λ a. IsAnswerOf s a) calm status history notes o o
 gave_up_script s calm status history notes o h is none unnoted = gave_up_by (λ a. IsAnswerOf s a) calm status history notes o (of_script s h) is none unnoted
 
@@ -148,13 +159,13 @@ gave_up_words words text calm status history notes o is none unnoted =
     gave_up_by (λ a. IsAnswerTo words text a) calm status history notes o (of_words (usage_fault words) text) is none unnoted
 
 -- memory ran out while the script was played
-gave_up_playing : (s : Script) (calm : Type 0) (history : List Step) (notes : List Note) (o : Option (List ℕ)) → WasCutOff s history notes → IsSafe (config_of s) history
+gave_up_playing : (s : Script) (calm : Type 0) (history : List Step) (notes : List Note) (o : Option (List ℕ)) → Fits s → WasCutOff s history notes → IsSafe (config_of s) history
     → Answered (λ a. IsAnswerOf s a) calm 6 history notes o o
-gave_up_playing s calm history notes o cut safe =
+gave_up_playing s calm history notes o fits cut safe =
     let w = plays_to_stop s cut.wants cut.made cut.cut.few cut.cut.few_notes cut.cut.played in
     let whole : List Made = cut.made ++ w.0 in (
       made_answer s w.1.0 (steps_of whole) (notes_of whole),
-      is_made s w.1.0 (steps_of whole) (notes_of whole) (run_is s cut.wants whole w.1.0 w.1.1),
+      is_made s w.1.0 (steps_of whole) (notes_of whole) fits (run_is s cut.wants whole w.1.0 w.1.1),
       record {
         whole = λ c no6. absurd (no6 refl);
         kept = λ no6. absurd (no6 refl);
@@ -168,10 +179,10 @@ gave_up_playing s calm history notes o cut safe =
       },
     )
 
-pub gave_up_by_playing : (s : Script) (calm : Type 0) (k : Kept) (history : List Step) (notes : List Note) (o : Option (List ℕ)) → history ≡ k.steps → notes ≡ k.notes → k.config ≡ config_of s
+pub gave_up_by_playing : (s : Script) (calm : Type 0) (k : Kept) (history : List Step) (notes : List Note) (o : Option (List ℕ)) → Fits s → history ≡ k.steps → notes ≡ k.notes → k.config ≡ config_of s
     → IsSafe k.config history → WasCutOff s k.steps k.notes → Answered (λ a. IsAnswerOf s a) calm 6 history notes o o
-gave_up_by_playing s calm k history notes o is same config safe cut =
-    gave_up_playing s calm history notes o (subst (λ (ns : List Note). WasCutOff s history ns) (sym same) (subst (λ (ss : List Step). WasCutOff s ss k.notes) (sym is) cut)) (subst (λ (c : Config). IsSafe c history) config safe)
+gave_up_by_playing s calm k history notes o fits is same config safe cut =
+    gave_up_playing s calm history notes o fits (subst (λ (ns : List Note). WasCutOff s history ns) (sym same) (subst (λ (ss : List Step). WasCutOff s ss k.notes) (sym is) cut)) (subst (λ (c : Config). IsSafe c history) config safe)
 
 -- ---- the whole
 
@@ -181,12 +192,12 @@ pub told_part : (r : Result (Vec ℕ Global) OutOfMemory) (o n : Option (List �
 told_part (Ok t) o n bytes text part = subst (λ (bs : List ℕ). AppendsFront o n bs) text part
 told_part (Err e) o n bytes text part = subst (λ (k : Option (List ℕ)). AppendsFront o k bytes) (sym part) (front_none o bytes)
 
-told_all : (s : Script) (stop : Stop) (calm : Type 0) (status : ℕ) (played history : List Step) (noted notes : List Note) (o n : Option (List ℕ)) → HasRun s played noted stop → history ≡ played
+told_all : (s : Script) (stop : Stop) (calm : Type 0) (status : ℕ) (played history : List Step) (noted notes : List Note) (o n : Option (List ℕ)) → Fits s → HasRun s played noted stop → history ≡ played
     → notes ≡ noted → IsSafe (config_of s) played → (calm → status ≢ 6 → (status ≡ status_of stop played noted) × Appends o n (text_with played noted ++ stop_text stop))
     → AppendsFront o n (text_with played noted ++ stop_text stop) → Answered (λ a. IsAnswerOf s a) calm status history notes o n
-told_all s stop calm status played history noted notes o n run is same safe said part = (
+told_all s stop calm status played history noted notes o n fits run is same safe said part = (
   made_answer s stop played noted,
-  is_made s stop played noted run,
+  is_made s stop played noted fits run,
   record {
     whole = said;
     kept = λ no6. (is, same);
@@ -197,12 +208,12 @@ told_all s stop calm status played history noted notes o n run is same safe said
   },
 )
 
-pub told_by : (s : Script) (stop : Stop) (calm : Type 0) (status : ℕ) (k : Kept) (played history : List Step) (noted notes : List Note) (o n : Option (List ℕ)) → played ≡ k.steps
+pub told_by : (s : Script) (stop : Stop) (calm : Type 0) (status : ℕ) (k : Kept) (played history : List Step) (noted notes : List Note) (o n : Option (List ℕ)) → Fits s → played ≡ k.steps
     → noted ≡ k.notes → k.config ≡ config_of s → IsSafe k.config played → HasRun s k.steps k.notes stop → history ≡ played → notes ≡ noted
     → (calm → status ≢ 6 → (status ≡ status_of stop played noted) × Appends o n (text_with played noted ++ stop_text stop)) → AppendsFront o n (text_with played noted ++ stop_text stop)
     → Answered (λ a. IsAnswerOf s a) calm status history notes o n
-told_by s stop calm status k played history noted notes o n same as_noted config safe run is kept said part =
-    told_all s stop calm status played history noted notes o n
+told_by s stop calm status k played history noted notes o n fits same as_noted config safe run is kept said part =
+    told_all s stop calm status played history noted notes o n fits
     (subst (λ (ns : List Note). HasRun s played ns stop) (sym as_noted) (subst (λ (ss : List Step). HasRun s ss k.notes stop) (sym same) run)) is kept (subst (λ (c : Config). IsSafe c played) config safe) said
     part
 

@@ -4,5 +4,6 @@ pub mod Memory
 pub mod Playing
 pub mod Texts
 pub mod Words
+pub mod Programs
 pub mod Program
 pub mod Laws

@@ -15,6 +15,7 @@ use Rattle.shard_calls.specs.declared.event.Note.{Note}
 use Rattle.vtctld_text.specs.Notes.{text_with}
 use Rattle.shard_top.specs.Played.{first_moment, config_of}
 use Rattle.shard_top.specs.Playing.{HasRun}
+use Rattle.shard_top.specs.Programs.{program, own}
 use Rattle.shard_top.specs.Texts.{stop_text, status_of, usage_text, fault_text}
 use Rattle.shard_top.specs.Words.{usage_fault}
 use Rattle.shard_top.specs.Streams.{AppendsFront}
@@ -40,6 +41,9 @@ pub record IsAnswerOf (s : Script) (a : Answer) : Type 0 where
   pub status : a.status ≡ status_of stop a.history a.notes
   pub config : a.config ≡ config_of s
   pub written : a.written ≡ text_with a.history a.notes ++ stop_text stop
+  -- each actor has begun its commands in order, and all of them where the script is over
+  pub own_front : (actor : List ℕ) → IsFront (own a.history actor) (program s actor)
+  pub own_all : stop ≡ stops.Over → (actor : List ℕ) → own a.history actor ≡ program s actor
 
 -- nothing is played, this is the status, and this is written
 abbrev pub fault_answer : ℕ → List ℕ → Answer
