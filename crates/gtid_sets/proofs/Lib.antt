@@ -14,3 +14,6 @@ pub mod SameLemmas
 pub mod SetLemmas
 pub mod LookLemmas
 pub mod TextLemmas
+pub mod ReadingLemmas
+pub mod SortLemmas
+pub mod BackLemmas

@@ -52,6 +52,12 @@ abbrev pub StartsBy : Gtid → List Interval → Type 0
 StartsBy g [] = Unit {0}
 StartsBy g (x ∷ xs) = ((gtid_cmp (start x) g ≡ Less) ⊎ (start x ≡ g)) × StartsBy g xs
 
+-- each begins where the one before it does, or above
+abbrev pub StartsRise : List Interval → Type 0
+StartsRise [] = Unit {0}
+StartsRise (x ∷ []) = Unit {0}
+StartsRise (x ∷ y ∷ ys) = ((gtid_cmp (start x) (start y) ≡ Less) ⊎ (start x ≡ start y)) × StartsRise (y ∷ ys)
+
 -- so does each of the first list at the first of the second
 abbrev pub Behind : List Interval → List Interval → Type 0
 Behind xs [] = Unit {0}

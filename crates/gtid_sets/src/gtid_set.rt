@@ -1,6 +1,6 @@
 ghost use Rattle.std.specs.Prelude.{◌≡◌, ◌↔◌, IsTrue, IfOk, OnOk, OnErr};
 ghost use Rattle.gtid_sets.specs.Position.{nothing, with_gtid, has, count, union, minus, covers};
-ghost use Rattle.gtid_sets.specs.Intervals.{Ordered, holds, within};
+ghost use Rattle.gtid_sets.specs.Intervals.{Ordered, holds, within, position_of};
 
 use crate::{Gtid, Interval, intervals};
 use shard_base::OutOfMemory;
@@ -67,6 +67,17 @@ impl GtidSet {
         ensures { IfOk result (λ set. (gtid : Gtid) → has set gtid ≡ holds interval.now gtid) }
     {
         let intervals = intervals::of_one(alloc, interval)?;
+        Ok(GtidSet { intervals })
+    }
+
+    /// The transactions of intervals in any order, which it puts in order.
+    pub(crate) fn of_intervals(
+        alloc: Global,
+        intervals: &mut Vec<Interval>,
+    ) -> Result<GtidSet, OutOfMemory>
+        ensures { IfOk result (λ set. set ≡ position_of intervals.old.items) }
+    {
+        let intervals = intervals::of_all(alloc, intervals)?;
         Ok(GtidSet { intervals })
     }
 

@@ -2,7 +2,7 @@
 
 ghost use Rattle.std.specs.Prelude.{◌≡◌, ◌↔◌, ◌||◌, ◌&&◌, not, true, false, ◌<◌, ◌≤◌, ◌^◌, length, get_or, ◌++◌, option_to_list, IsTrue, IfOk, OnOk, OnErr};
 ghost use Rattle.std.specs.List.{prefix_len};
-ghost use Rattle.gtid_sets.specs.Intervals.{Ordered, StartsBy, Behind, HasWith, holds, within, total, start, ends_below, touches};
+ghost use Rattle.gtid_sets.specs.Intervals.{Ordered, StartsBy, StartsRise, Behind, HasWith, holds, within, total, start, ends_below, touches};
 
 use crate::{Gtid, Interval};
 use shard_base::OutOfMemory;
@@ -18,6 +18,47 @@ pub(crate) fn of_one(alloc: Global, interval: &Interval) -> Result<Vec<Interval>
         intervals.push(*interval)?;
     }
     Ok(intervals)
+}
+
+/// The list of intervals in any order, which are put in order.
+pub(crate) fn of_all(
+    alloc: Global,
+    intervals: &mut Vec<Interval>,
+) -> Result<Vec<Interval>, OutOfMemory>
+    ensures in_order { IfOk result (λ xs. Ordered xs.items) }
+    ensures members { IfOk result (λ xs. (g : Gtid) → within xs.items g ≡ within intervals.old.items g) }
+{
+    intervals.sort_by_key(|interval| interval.start())?;
+    of_rising(alloc, intervals.as_slice())
+}
+
+/// The list of intervals that are in order of their starts.
+fn of_rising(alloc: Global, intervals: &[Interval]) -> Result<Vec<Interval>, OutOfMemory>
+    requires { StartsRise intervals.now }
+    ensures in_order { IfOk result (λ xs. Ordered xs.items) }
+    ensures members { IfOk result (λ xs. (g : Gtid) → within xs.items g ≡ within intervals.now g) }
+{
+    let mut all = Vec::new(alloc);
+    let mut left = intervals;
+    while let Some((next, rest)) = left.split_first() {
+        append_some(&mut all, next)?;
+        left = rest;
+    }
+    Ok(all)
+}
+
+/// Puts an interval at the end, unless it is empty.
+fn append_some(intervals: &mut Vec<Interval>, next: &Interval) -> Result<(), OutOfMemory>
+    requires in_order { Ordered intervals.old.items }
+    requires behind { StartsBy (start next.now) intervals.old.items }
+    ensures in_order { OnOk result (Ordered intervals.new.items) }
+    ensures members { OnOk result ((g : Gtid) → within intervals.new.items g ≡ (within intervals.old.items g || holds next.now g)) }
+    ensures behind { OnOk result (StartsBy (start next.now) intervals.new.items) }
+{
+    if next.first > next.last {
+        return Ok(());
+    }
+    append(intervals, next)
 }
 
 /// How many transactions they have.

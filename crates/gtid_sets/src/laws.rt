@@ -1,6 +1,7 @@
 //! What positions promise as finite sets. The functions do nothing: each one's contract is a law.
 
 ghost use Rattle.gtid_sets.specs.Intervals.{OneListEach};
+ghost use Rattle.gtid_sets.specs.ReadingLaws.{SetReadsBack, PositionReadsBack};
 ghost use Rattle.gtid_sets.specs.PositionLaws.{NothingHasNone, WithGtidHas, OfGtidsHas, UnionHas, MinusHas, TestIsEquality, SameMembersAreOne, CountWithGtid, CoversIsInclusion, CoversIsAnOrder, MinusOfCovered, GreatestIsThere, NoneIsGreater};
 
 /// The empty set has no member.
@@ -71,4 +72,14 @@ pub fn none_is_greater()
 /// Each set has one list of intervals in order.
 pub fn one_list_each()
     ensures { OneListEach }
+{}
+
+/// The text that is written of a set is read as that set.
+pub fn set_reads_back()
+    ensures { SetReadsBack }
+{}
+
+/// The text that is written of a position is read as that position.
+pub fn position_reads_back()
+    ensures { PositionReadsBack }
 {}

@@ -1,4 +1,7 @@
-use crate::{Gtid, GtidSet, Interval, covers, equal, minus, union, write_position, write_set};
+use crate::{
+    Gtid, GtidSet, Interval, ReadFault, SetFault, covers, equal, minus, read_position, read_set,
+    union, write_position, write_set,
+};
 use shard_base::OutOfMemory;
 use std::alloc::Global;
 use std::test::Fail;
@@ -198,5 +201,100 @@ fn prints_thirty_two_servers(rt: HostRuntime) -> Result<(), Fail> {
     assert_eq!(rt; set.count(), 96);
     let text = text_of(alloc, &set)?;
     assert_eq!(rt; text.as_slice(), want.as_slice());
+    Ok(())
+}
+
+/// Whether a text is read as the set that is written so.
+fn is_read_as(alloc: Global, text: &[u8], want: &[u8]) -> Result<bool, OutOfMemory> {
+    match read_set(alloc, text) {
+        Ok(set) => {
+            let written = text_of(alloc, &set)?;
+            Ok(written.as_slice() == want)
+        }
+        Err(_) => Ok(false),
+    }
+}
+
+#[test]
+fn reads_sets_as_mysql_does(rt: HostRuntime) -> Result<(), Fail> {
+    let alloc = rt.alloc();
+    let server = b"00000000-0000-4000-8000-000000000100".as_slice();
+    let table: [(&[u8], &[u8]); 6] = [
+        (b"", b""),
+        (b":5-3", b""),
+        (b":5-0", b""),
+        (b":9223372036854775806", b":9223372036854775806"),
+        (
+            b":007:1-3 ,\t00000000-0000-4000-8000-000000000100:4-6",
+            b":1-7",
+        ),
+        (b":3:1,\r\n00000000-0000-4000-8000-000000000100:2", b":1-3"),
+    ];
+    for (items, want) in table {
+        let mut text = Vec::new(alloc);
+        let mut wanted = Vec::new(alloc);
+        if !items.is_empty() {
+            text.extend_from_slice(server)?;
+            text.extend_from_slice(items)?;
+        }
+        if !want.is_empty() {
+            wanted.extend_from_slice(server)?;
+            wanted.extend_from_slice(want)?;
+        }
+        assert!(rt; is_read_as(alloc, &text, &wanted)?);
+    }
+    let out_of_order =
+        b"00000000-0000-4000-8000-0000000001Aa:1-3:5,\n00000000-0000-4000-8000-000000000100:4-6:5:7";
+    let want =
+        b"00000000-0000-4000-8000-000000000100:4-7,00000000-0000-4000-8000-0000000001aa:1-3:5";
+    assert!(rt; is_read_as(alloc, out_of_order, want)?);
+    Ok(())
+}
+
+/// Whether a text is refused with this fault.
+fn is_refused(alloc: Global, text: &[u8], want: SetFault) -> bool {
+    match read_set(alloc, text) {
+        Ok(_) => false,
+        Err(fault) => fault == ReadFault::Text(want),
+    }
+}
+
+#[test]
+fn refuses_what_is_no_set(rt: HostRuntime) -> Result<(), Fail> {
+    let alloc = rt.alloc();
+    let server = b"00000000-0000-4000-8000-000000000100".as_slice();
+    let table: [(&[u8], SetFault); 11] = [
+        (b"", SetFault::BadInterval { at: 36 }),
+        (b":", SetFault::BadInterval { at: 37 }),
+        (b":tag:1", SetFault::Tagged { at: 37 }),
+        (b":0", SetFault::BadInterval { at: 37 }),
+        (b":0-3", SetFault::BadInterval { at: 37 }),
+        (b":1-2-3", SetFault::BadInterval { at: 37 }),
+        (b":1 ", SetFault::BadInterval { at: 37 }),
+        (b":9223372036854775807", SetFault::TooLarge { at: 37 }),
+        (b":1:5-99999999999999999999", SetFault::TooLarge { at: 39 }),
+        (b":1,  ", SetFault::BadUuid { at: 39 }),
+        (b":1,  :1", SetFault::BadUuid { at: 39 }),
+    ];
+    for (items, want) in table {
+        let mut text = Vec::new(alloc);
+        text.extend_from_slice(server)?;
+        text.extend_from_slice(items)?;
+        assert!(rt; is_refused(alloc, &text, want));
+    }
+    assert!(rt; is_refused(alloc, b"xyz", SetFault::BadUuid { at: 0 }));
+    assert!(rt; is_refused(alloc, b" ,", SetFault::BadUuid { at: 0 }));
+    Ok(())
+}
+
+#[test]
+fn reads_positions_as_vitess_does(rt: HostRuntime) -> Result<(), Fail> {
+    let alloc = rt.alloc();
+    let none = read_position(alloc, b"MySQL56/");
+    assert!(rt; none.is_ok_and(|set| set == GtidSet::empty(alloc)));
+    let other = read_position(alloc, b"MariaDB/0-1-5");
+    assert!(rt; other.is_err_and(|fault| fault == ReadFault::Text(SetFault::BadFlavor)));
+    let bad = read_position(alloc, b"MySQL56/xyz:1");
+    assert!(rt; bad.is_err_and(|fault| fault == ReadFault::Text(SetFault::BadUuid { at: 8 })));
     Ok(())
 }
