@@ -18,7 +18,7 @@ use Rattle.shard_calls.specs.declared.post.Content.{Content}
 use Rattle.shard_calls.specs.declared.post.Content.TheVariants as contents
 use Rattle.shard_calls.specs.declared.post.Message.{Message}
 use Rattle.shard_calls.specs.declared.stand.Stand.{Stand}
-use Rattle.shard_calls.specs.Groups.{Group}
+use Rattle.shard_calls.specs.declared.group.Group.{Group}
 use Rattle.shard_calls.specs.Stands.{is_down, is_primary, is_primary_of}
 use Rattle.gtid_sets.specs.Logs.{place_of_row}
 use Rattle.shard_calls.specs.Tablets.{TabletState, is_told, is_row_told, answer_to}

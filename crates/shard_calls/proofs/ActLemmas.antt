@@ -39,7 +39,7 @@ use Rattle.shard_calls.specs.Deliveries.{if_declared, asked, fed, feed_verdict, 
 use Rattle.shard_calls.specs.Writes.{write_reply, may_write, writes_in, writes_at, write_verdict, with_written, written_reply, tell_of, tells}
 use Rattle.shard_calls.specs.Table.{Met, answer, after, world_after, IsRunFrom}
 use Rattle.shard_calls.specs.RunLaws.{OfEveryRun}
-use Rattle.shard_calls.specs.Answered.{taken_by_reply, read_by_reply, lost_by_reply, recorded_by_reply, not_primary_by_reply, told_by_reply, if_own, act_of, acts_of, ActsAreSteps}
+use Rattle.shard_calls.specs.Answered.{taken_by_reply, read_by_reply, intended_by_reply, recorded_by_reply, written_by_reply, told_by_reply, if_own, act_of, acts_of, ActsAreSteps}
 use Rattle.shard_calls.proofs.ListLemmas.{numbered_changed, numbered_other}
 
 -- ---- one command among them
@@ -117,7 +117,7 @@ take_acts w d c None begun met = absurd (false≢true met)
 take_acts w d c (Some s) begun met = one_acts w.commands d c (with_taken (answer_take w.topo)) s _ (if_open_is (numbered w.commands d) s begun) (does (answer_take w.topo))
   where
     does : (r : Result ℕ LockTaken) → (with_taken r s).acts ≡ s.acts ++ option_to_list (taken_by_reply (taken_reply r))
-    does (Ok t) = sym (append-nil s.acts)
+    does (Ok t) = refl
     does (Err held) = refl
 
 read_shows : (topo : Topology) (t : ℕ) → read_by_reply (read_reply topo t) ≡ Some (read_act topo t)
@@ -125,7 +125,7 @@ read_shows topo t = of_test (is_held_in topo t)
   where
     of_test : (b : Bool)
         → read_by_reply (cond b (replies.Read (seen_of topo)) (replies.Lost topo.term))
-        ≡ Some (cond b (acts.Read (seen_of topo)) (acts.Lost topo.term))
+        ≡ Some (cond b (acts.Read (Ok (seen_of topo))) (acts.Read (Err topo.term)))
     of_test true = refl
     of_test false = refl
 
@@ -137,14 +137,14 @@ read_acts w d c (Some t) term met =
     one_acts w.commands d c (with_act (read_act w.topo t)) s.0 _ s.1 (ap (λ (act : Option Act). s.0.acts ++ option_to_list act) (sym (read_shows w.topo t)))
 
 intend_acts : (w : World) (d c : ℕ) (a : Alias) (o : Option ℕ) → term_of w d ≡ o → is_some o ≡ true
-    → Grow w.commands (by_term o w (intends_in w d a)).commands c (if_own d c (lost_by_reply (by_term o replies.Ok (λ t. topo_reply (answer_intend w.topo t a)))))
+    → Grow w.commands (by_term o w (intends_in w d a)).commands c (if_own d c (intended_by_reply a (by_term o replies.Ok (λ t. topo_reply (answer_intend w.topo t a)))))
 intend_acts w d c a None term met = absurd (false≢true met)
 intend_acts w d c a (Some t) term met =
     let s = term_is (numbered w.commands d) t term in
-    one_acts w.commands d c (with_intended (answer_intend w.topo t a)) s.0 _ s.1 (does s.0 (answer_intend w.topo t a))
+    one_acts w.commands d c (with_intended a (answer_intend w.topo t a)) s.0 _ s.1 (does s.0 (answer_intend w.topo t a))
   where
-    does : (s : CommandState) (r : Result (Unit {0}) TopoFault) → (with_intended r s).acts ≡ s.acts ++ option_to_list (lost_by_reply (topo_reply r))
-    does s (Ok u) = sym (append-nil s.acts)
+    does : (s : CommandState) (r : Result (Unit {0}) TopoFault) → (with_intended a r s).acts ≡ s.acts ++ option_to_list (intended_by_reply a (topo_reply r))
+    does s (Ok u) = refl
     does s (Err (faults.LockLost current)) = refl
     does s (Err (faults.IntentStands b)) = sym (append-nil s.acts)
 
@@ -181,17 +181,17 @@ same_none old d c = subst (λ (act : Option Act). Grow old old c act) (sym (none
 
 written_acts : (w : World) (d c : ℕ) (a : Alias) (s : CommandState) (o : Option Tablet) → open_command w d ≡ Some s
     → Grow w.commands (if_declared o w (writes_at w d a s)).commands c
-    (if_own d c (not_primary_by_reply a (if_declared o replies.Ok (λ me. written_reply (write_verdict w a s me).says))))
+    (if_own d c (written_by_reply a (if_declared o replies.Ok (λ me. written_reply (write_verdict w a s me).says))))
 written_acts w d c a s None begun = same_none w.commands d c
 written_acts w d c a s (Some me) begun =
     one_acts w.commands d c (with_written a (w.tablets a) (write_verdict w a s me).says) s _ (if_open_is (numbered w.commands d) s begun) (does (write_verdict w a s me).says)
   where
-    does : (r : Written) → (with_written a (w.tablets a) r s).acts ≡ s.acts ++ option_to_list (not_primary_by_reply a (written_reply r))
-    does (writtens.Entry g) = sym (append-nil s.acts)
+    does : (r : Written) → (with_written a (w.tablets a) r s).acts ≡ s.acts ++ option_to_list (written_by_reply a (written_reply r))
+    does (writtens.Entry g) = refl
     does (writtens.NotPrimary at) = refl
 
 write_acts : (config : Config) (w : World) (d c : ℕ) (a : Alias) (o : Option CommandState) → open_command w d ≡ o → may_write o ≡ true
-    → Grow w.commands (writes_in config w d a o).commands c (if_own d c (not_primary_by_reply a (write_reply config w a o)))
+    → Grow w.commands (writes_in config w d a o).commands c (if_own d c (written_by_reply a (write_reply config w a o)))
 write_acts config w d c a None begun met = absurd (false≢true met)
 write_acts config w d c a (Some s) begun met = written_acts w d c a s (tablet_of config.tablets a) begun
 
@@ -204,7 +204,7 @@ tell_acts : (w : World) (d c : ℕ) (r : Option Reply) → tell_of w d ≡ r →
     → Grow w.commands (tells w d r).commands c (if_own d c (told_by_reply (unwrap_or r replies.Ok)))
 tell_acts w d c None is met = absurd (false≢true met)
 tell_acts w d c (Some replies.Told) is met =
-    let s = teller (numbered w.commands d) _ replies.Told is in one_acts w.commands d c (with_act acts.Told) s.0 (Some acts.Told) s.1 refl
+    let s = teller (numbered w.commands d) _ replies.Told is in one_acts w.commands d c (with_act (acts.Told true)) s.0 (Some (acts.Told true)) s.1 refl
 tell_acts w d c (Some (replies.Begun command)) is met = same_none w.commands d c
 tell_acts w d c (Some (replies.Term term)) is met = same_none w.commands d c
 tell_acts w d c (Some (replies.Taken term by)) is met = same_none w.commands d c
@@ -216,7 +216,7 @@ tell_acts w d c (Some (replies.GaveUp why)) is met = same_none w.commands d c
 tell_acts w d c (Some (replies.Wrote g)) is met = same_none w.commands d c
 tell_acts w d c (Some (replies.NotPrimary at)) is met = same_none w.commands d c
 tell_acts w d c (Some replies.Gone) is met =
-    let s = teller (numbered w.commands d) _ replies.Gone is in one_acts w.commands d c (with_act acts.Gone) s.0 (Some acts.Gone) s.1 refl
+    let s = teller (numbered w.commands d) _ replies.Gone is in one_acts w.commands d c (with_act (acts.Told false)) s.0 (Some (acts.Told false)) s.1 refl
 tell_acts w d c (Some replies.Ok) is met = same_none w.commands d c
 
 end_acts : (w : World) (d c : ℕ) (o : Option CommandState) → Grow w.commands (ends_by w d o).commands c None

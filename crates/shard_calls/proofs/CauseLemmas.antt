@@ -29,8 +29,15 @@ use Rattle.shard_calls.specs.declared.state.Act.TheVariants as acts
 use Rattle.shard_calls.specs.declared.state.CommandState.{CommandState}
 use Rattle.shard_calls.specs.declared.state.Wrote.{Wrote}
 use Rattle.gtid_sets.specs.Logs.{has_row}
-use Rattle.shard_calls.specs.Outcomes.{Outcome, Answered, GivenUp, answer_in, outcome_by, outcome_of, Sending, sending_by, sending_of, sendings}
-use Rattle.shard_calls.specs.Causes.{is_some_of, is_promote, is_wait_told, is_promoted, is_told_so, came_to_in, leaves_out, wrote_this, is_told_act, has_command_cause, has_cause}
+use Rattle.shard_calls.specs.declared.span.Deed.{Deed}
+use Rattle.shard_calls.specs.declared.span.Kind.{Kind}
+use Rattle.shard_calls.specs.declared.span.Kind.TheVariants as kinds
+use Rattle.shard_calls.specs.declared.span.Outcome.{Outcome}
+use Rattle.shard_calls.specs.declared.span.Outcome.TheVariants.{Answered, GivenUp}
+use Rattle.shard_calls.specs.Kinds.{kind_of, kind_eq}
+use Rattle.shard_calls.specs.Outcomes.{answer_in, outcome_by, outcome_of}
+use Rattle.shard_calls.specs.Spans.{asked_by, deed_if_asked, deed_of, span_in, term_wrote}
+use Rattle.shard_calls.specs.Causes.{is_some_of, outcome_passes, is_promoted_answer, is_told_answer, said_in, any_said_in, leaves_out, is_promoted, wrote_this, is_told_act, has_command_cause, has_cause}
 use Rattle.shard_calls.specs.World.{Config, World, numbered}
 use Rattle.shard_calls.proofs.WorldLemmas.{IsSoundWorld, IsIntended, Fits}
 use Rattle.shard_calls.proofs.SettleLemmas.{settled_in}
@@ -44,6 +51,9 @@ committed_by config w s (commands.Planned shard given avoid expected timeout all
 committed_by config w s (commands.External b) g a t h = absurd (false≢true h)
 committed_by config w s (commands.Write to) g a t h = both_left (wrote_this s.wrote g a t) (list_any is_told_act s.acts) h
 committed_by config w s (commands.Show b) g a t h = absurd (false≢true h)
+committed_by config w s (commands.Emergency shard given ignored expected timeout preventing) g a t h = absurd (false≢true h)
+committed_by config w s (commands.GetShard shard) g a t h = absurd (false≢true h)
+committed_by config w s (commands.GetTablets shard) g a t h = absurd (false≢true h)
 
 -- what is said to be written was written
 pub record IsWritten (o : Option CommandState) (g : Gtid) (a : Alias) (t : ℕ) : Type 0 where
@@ -79,67 +89,110 @@ committed_is_written config w (Some s) g a t h = written_this s s.wrote g a t re
 
 -- ---- a promotion
 
+-- its Promote of the term was answered so
+promoted_so : (s : CommandState) (span : List Deed) (a : Alias) (t : ℕ) (left : List NotJoined) → is_promoted s span a t left ≡ true
+    → any_said_in t kinds.Promote a is_promoted_answer span ≡ true
+promoted_so s span a t left h =
+    let first : Bool = is_some_of s.term t in
+    let came : Bool = any_said_in t kinds.Promote a is_promoted_answer span in
+    let told : Bool = any_said_in t kinds.WaitTold a is_told_answer span in
+    both_right first came (both_left (first && came) told (both_left (first && came && told) (leaves_out a left span) h))
+
 promoted_by : (config : Config) (w : World) (s : CommandState) (command : Command) (a : Alias) (t : ℕ) (left : List NotJoined)
-    → has_command_cause config w s command (answers.Promoted a t left) ≡ true → came_to_in t is_promote a is_promoted (sendings w.post s.acts) ≡ true
+    → has_command_cause config w s command (answers.Promoted a t left) ≡ true → any_said_in t kinds.Promote a is_promoted_answer (span_in w.post s) ≡ true
 promoted_by config w s (commands.Write to) a t left h = absurd (false≢true h)
 promoted_by config w s (commands.Show b) a t left h = absurd (false≢true h)
 promoted_by config w s (commands.External b) a t left h = absurd (false≢true h)
-promoted_by config w s (commands.Planned shard given avoid expected timeout allow_cross_cell) a t left h =
-    let first : Bool = is_some_of s.term t in
-    let came : Bool = came_to_in t is_promote a is_promoted (sendings w.post s.acts) in
-    let told : Bool = came_to_in t is_wait_told a is_told_so (sendings w.post s.acts) in
-    both_right first came (both_left (first && came) told (both_left (first && came && told) (leaves_out w.post a left s.acts) h))
+promoted_by config w s (commands.GetShard shard) a t left h = absurd (false≢true h)
+promoted_by config w s (commands.GetTablets shard) a t left h = absurd (false≢true h)
+promoted_by config w s (commands.Planned shard given avoid expected timeout crossing) a t left h = promoted_so s (span_in w.post s) a t left h
+promoted_by config w s (commands.Emergency shard given ignored expected timeout preventing) a t left h = promoted_so s (span_in w.post s) a t left h
 
-any_sending : (p : Sending → Bool) (f : Act → Option Sending) (done : List Act) → list_any p (filter_map f done) ≡ true
-    → (act : Act) × (x : Sending) × (f act ≡ Some x) × (p x ≡ true)
-any_sending p f [] h = absurd (false≢true h)
-any_sending p f (act ∷ done) h = of_option (f act) refl h (λ k. any_sending p f done k)
+any_deed : (p : Deed → Bool) (f : Act → Option Deed) (done : List Act) → list_any p (filter_map f done) ≡ true
+    → (act : Act) × (d : Deed) × (f act ≡ Some d) × (p d ≡ true)
+any_deed p f [] h = absurd (false≢true h)
+any_deed p f (act ∷ done) h = of_option (f act) refl h (λ k. any_deed p f done k)
   where
-    of_test : (x : Sending) (b : Bool) → f act ≡ Some x → p x ≡ b → (b || list_any p (filter_map f done)) ≡ true
-        → (list_any p (filter_map f done) ≡ true → (c : Act) × (y : Sending) × (f c ≡ Some y) × (p y ≡ true))
-        → (c : Act) × (y : Sending) × (f c ≡ Some y) × (p y ≡ true)
-    of_test x true is passes k rest = (act, x, is, passes)
-    of_test x false is passes k rest = rest k
+    of_test : (d : Deed) (b : Bool) → f act ≡ Some d → p d ≡ b → (b || list_any p (filter_map f done)) ≡ true
+        → (list_any p (filter_map f done) ≡ true → (c : Act) × (y : Deed) × (f c ≡ Some y) × (p y ≡ true))
+        → (c : Act) × (y : Deed) × (f c ≡ Some y) × (p y ≡ true)
+    of_test d true is passes k rest = (act, d, is, passes)
+    of_test d false is passes k rest = rest k
 
-    of_option : (o : Option Sending) → f act ≡ o → list_any p (cons_option o (filter_map f done)) ≡ true
-        → (list_any p (filter_map f done) ≡ true → (c : Act) × (y : Sending) × (f c ≡ Some y) × (p y ≡ true))
-        → (c : Act) × (y : Sending) × (f c ≡ Some y) × (p y ≡ true)
+    of_option : (o : Option Deed) → f act ≡ o → list_any p (cons_option o (filter_map f done)) ≡ true
+        → (list_any p (filter_map f done) ≡ true → (c : Act) × (y : Deed) × (f c ≡ Some y) × (p y ≡ true))
+        → (c : Act) × (y : Deed) × (f c ≡ Some y) × (p y ≡ true)
     of_option None is k rest = rest k
-    of_option (Some x) is k rest = of_test x (p x) is refl k rest
+    of_option (Some d) is k rest = of_test d (p d) is refl k rest
 
--- a call that was sent, in the post
-record IsSending (post : List Message) (x : Sending) : Type 0 where
-  k : ℕ
-  message : Message
-  command : ℕ
-  at : numbered post k ≡ Some message
-  carries : message.content ≡ contents.Asks command x.term x.to x.call
-  outcome : outcome_of post message ≡ x.outcome
+-- a call of this kind and term to the tablet, which was answered so, in the post
+pub record WasSaid (post : List Message) (t : ℕ) (kind : Kind) (a : Alias) (test : Answer → Bool) : Type 0 where
+  pub number : ℕ
+  pub message : Message
+  pub command : ℕ
+  pub call : Call
+  pub at : numbered post number ≡ Some message
+  pub carries : message.content ≡ contents.Asks command t a call
+  pub of_kind : kind_eq (kind_of call) kind ≡ true
+  pub passes : outcome_passes test (outcome_of post message) ≡ true
 
-sending_in : (post : List Message) (k : ℕ) (m : Message) (content : Content) (x : Sending) → numbered post k ≡ Some m → m.content ≡ content
-    → sending_by post m content ≡ Some x → IsSending post x
-sending_in post k m (contents.Asks command term to call) x at carries h =
-    let same : (let y : Sending = record { term = term; to = to; call = call; sent = m.sent; arrived = m.arrived; outcome = outcome_of post m } in y) ≡ x =
-    (let some : Some (let y : Sending = record { term = term; to = to; call = call; sent = m.sent; arrived = m.arrived; outcome = outcome_of post m } in y) ≡ Some x = h in cc) in
-    subst (λ (y : Sending). IsSending post y) same (record { k = k; message = m; command = command; at = at; carries = carries; outcome = refl })
-sending_in post k m (contents.Answers command asked from answer) x at carries h = absurd (let none : None ≡ Some x = h in cc)
-sending_in post k m (contents.Feeds from to term before index e) x at carries h = absurd (let none : None ≡ Some x = h in cc)
-sending_in post k m (contents.Acks from to term index) x at carries h = absurd (let none : None ≡ Some x = h in cc)
+same_number : (m n : ℕ) → (m == n) ≡ true → m ≡ n
+same_number m n h = grind (arith, nat_tests)
 
-sending_at : (post : List Message) (k : ℕ) (o : Option Message) (x : Sending) → numbered post k ≡ o → (o >>= (λ m. sending_by post m m.content)) ≡ Some x
-    → IsSending post x
-sending_at post k None x at h = absurd (let none : None ≡ Some x = h in cc)
-sending_at post k (Some m) x at h = sending_in post k m m.content x at refl h
+said_by : (post : List Message) (k command term t : ℕ) (m : Message) (to a : Alias) (call : Call) (kind : Kind) (test : Answer → Bool) → numbered post k ≡ Some m
+    → m.content ≡ contents.Asks command term to call
+    → (kind_eq (kind_of call) kind && alias_eq to a && (term == t) && outcome_passes test (outcome_of post m)) ≡ true → WasSaid post t kind a test
+said_by post k command term t m to a call kind test at carries h =
+    let of_kind : Bool = kind_eq (kind_of call) kind in
+    let passes : Bool = outcome_passes test (outcome_of post m) in
+    let front : (of_kind && alias_eq to a && (term == t)) ≡ true = both_left (of_kind && alias_eq to a && (term == t)) passes h in
+    let names : (of_kind && alias_eq to a) ≡ true = both_left (of_kind && alias_eq to a) (term == t) front in
+    record {
+      number = k;
+      message = m;
+      command = command;
+      call = call;
+      at = at;
+      carries = carries
+          ∙ ap (λ (b : Alias). contents.Asks command term b call) (alias_eq_is to a (both_right of_kind (alias_eq to a) names))
+          ∙ ap (λ (u : ℕ). contents.Asks command u a call) (same_number term t (both_right (of_kind && alias_eq to a) (term == t) front));
+      of_kind = both_left of_kind (alias_eq to a) names;
+      passes = both_right (of_kind && alias_eq to a && (term == t)) passes h;
+    }
 
-sending_is : (post : List Message) (act : Act) (x : Sending) → sending_of post act ≡ Some x → IsSending post x
-sending_is post (acts.Taken term by) x h = absurd (let none : None ≡ Some x = h in cc)
-sending_is post (acts.Lost term) x h = absurd (let none : None ≡ Some x = h in cc)
-sending_is post (acts.Read seen) x h = absurd (let none : None ≡ Some x = h in cc)
-sending_is post (acts.Recorded a) x h = absurd (let none : None ≡ Some x = h in cc)
-sending_is post (acts.Sent k) x h = sending_at post k (numbered post k) x refl h
-sending_is post (acts.NotPrimary a at) x h = absurd (let none : None ≡ Some x = h in cc)
-sending_is post acts.Told x h = absurd (let none : None ≡ Some x = h in cc)
-sending_is post acts.Gone x h = absurd (let none : None ≡ Some x = h in cc)
+abbrev said_if : ℕ → Kind → Alias → (Answer → Bool) → Option Deed → Bool
+said_if t kind a test None = false
+said_if t kind a test (Some d) = said_in t kind a test d
+
+said_with : (post : List Message) (k t : ℕ) (m : Message) (content : Content) (kind : Kind) (a : Alias) (test : Answer → Bool) → numbered post k ≡ Some m → m.content ≡ content
+    → said_if t kind a test (deed_if_asked (asked_by post k m content)) ≡ true → WasSaid post t kind a test
+said_with post k t m (contents.Asks command term to call) kind a test at carries h = said_by post k command term t m to a call kind test at carries h
+said_with post k t m (contents.Answers command asked from answer) kind a test at carries h = absurd (false≢true h)
+said_with post k t m (contents.Feeds from to term before index e) kind a test at carries h = absurd (false≢true h)
+said_with post k t m (contents.Acks from to term index) kind a test at carries h = absurd (false≢true h)
+
+said_at : (post : List Message) (k t : ℕ) (o : Option Message) (kind : Kind) (a : Alias) (test : Answer → Bool) → numbered post k ≡ o
+    → said_if t kind a test (deed_if_asked (o >>= (λ m. asked_by post k m m.content))) ≡ true → WasSaid post t kind a test
+said_at post k t None kind a test at h = absurd (false≢true h)
+said_at post k t (Some m) kind a test at h = said_with post k t m m.content kind a test at refl h
+
+-- each call of a span is one of the post
+said_of : (post : List Message) (u t : ℕ) (kind : Kind) (a : Alias) (test : Answer → Bool) (act : Act) → said_if t kind a test (deed_of post u act) ≡ true
+    → WasSaid post t kind a test
+said_of post u t kind a test (acts.Took reply) h = absurd (false≢true h)
+said_of post u t kind a test (acts.Read reply) h = absurd (false≢true h)
+said_of post u t kind a test (acts.Intended b reply) h = absurd (false≢true h)
+said_of post u t kind a test (acts.Recorded b reply) h = absurd (false≢true h)
+said_of post u t kind a test (acts.Sent k) h = said_at post k t (numbered post k) kind a test refl h
+said_of post u t kind a test (acts.Wrote b reply) h = absurd (false≢true h)
+said_of post u t kind a test (acts.Told committed) h = absurd (false≢true h)
+
+pub was_said : (post : List Message) (s : CommandState) (t : ℕ) (kind : Kind) (a : Alias) (test : Answer → Bool) → any_said_in t kind a test (span_in post s) ≡ true
+    → WasSaid post t kind a test
+was_said post s t kind a test h =
+    let f : Act → Option Deed = deed_of post (term_wrote s.wrote) in
+    let r = any_deed (said_in t kind a test) f s.acts h in
+    said_of post (term_wrote s.wrote) t kind a test r.0 (ap (λ (o : Option Deed). said_if t kind a test o) r.2 ∙ r.3)
 
 -- an outcome that is an answer comes of a message
 record IsAnswered (post : List Message) (o : Option Settled) (answer : Answer) : Type 0 where
@@ -166,7 +219,7 @@ answered_by post None answer h = absurd (let none : None ≡ Some (Answered answ
 answered_by post (Some (settleds.Answered n)) answer h = answered_at post n (numbered post n) answer refl h
 answered_by post (Some (settleds.GaveUp why)) answer h = absurd (let wrong : Some (GivenUp why) ≡ Some (Answered answer) = h in cc)
 
-promoted_outcome : (o : Option Outcome) → is_promoted o ≡ true → (p : Position) × (o ≡ Some (Answered (says.Promoted p)))
+promoted_outcome : (o : Option Outcome) → outcome_passes is_promoted_answer o ≡ true → (p : Position) × (o ≡ Some (Answered (says.Promoted p)))
 promoted_outcome None h = absurd (false≢true h)
 promoted_outcome (Some (GivenUp why)) h = absurd (false≢true h)
 promoted_outcome (Some (Answered (says.Promoted p))) h = (p, refl)
@@ -185,7 +238,7 @@ promoted_outcome (Some (Answered (says.NotCaughtUp missing))) h = absurd (false�
 promoted_outcome (Some (Answered (says.Errant extra))) h = absurd (false≢true h)
 promoted_outcome (Some (Answered (says.NotStanding newest))) h = absurd (false≢true h)
 
-promote_call : (call : Call) → is_promote call ≡ true → (p : Position) × (call ≡ calls.Promote p)
+promote_call : (call : Call) → kind_eq (kind_of call) kinds.Promote ≡ true → (p : Position) × (call ≡ calls.Promote p)
 promote_call calls.Status h = absurd (false≢true h)
 promote_call calls.Stop h = absurd (false≢true h)
 promote_call calls.Demote h = absurd (false≢true h)
@@ -215,50 +268,37 @@ settled_at post k m o at is = ap (λ (x : Option Message). settled_in x) at ∙ 
 one_content : (x y : Message) (c d : Content) → x ≡ y → x.content ≡ c → y.content ≡ d → c ≡ d
 one_content x y c d same p q = sym p ∙ ap (λ (m : Message). m.content) same ∙ q
 
-sending_row : (w : World) (x : Sending) → IsSoundWorld w → IsTellingWorld w → IsSending w.post x → is_promote x.call ≡ true → is_promoted x.outcome ≡ true
-    → IsRowThere w x.to x.term
-sending_row w x sound telling s kind came =
-    let call = promote_call x.call kind in
-    let outcome = promoted_outcome x.outcome came in
-    let answered : IsAnswered w.post s.message.settled (says.Promoted outcome.0) = answered_by w.post s.message.settled (says.Promoted outcome.0) (s.outcome ∙ outcome.1) in
-    let settled : settled_in (numbered w.post s.k) ≡ Some (settleds.Answered answered.n) =
-    settled_at w.post s.k s.message (Some (settleds.Answered answered.n)) s.at answered.settled in
-    let answering : Answering w s.k answered.n = telling.settled s.k answered.n settled in
+row_of_both : (w : World) (b a : Alias) (u t : ℕ) → u ≡ t → b ≡ a → has_row (w.tablets b).log u ≡ true → has_row (w.tablets a).log t ≡ true
+row_of_both w b a u t term alias row =
+    subst (λ (x : Alias). has_row (w.tablets x).log t ≡ true) alias (subst (λ (n : ℕ). has_row (w.tablets b).log n ≡ true) term row)
+
+said_row : (w : World) (a : Alias) (t : ℕ) → IsSoundWorld w → IsTellingWorld w → WasSaid w.post t kinds.Promote a is_promoted_answer → IsRowThere w a t
+said_row w a t sound telling s =
+    let call = promote_call s.call s.of_kind in
+    let outcome = promoted_outcome (outcome_of w.post s.message) s.passes in
+    let answered : IsAnswered w.post s.message.settled (says.Promoted outcome.0) = answered_by w.post s.message.settled (says.Promoted outcome.0) outcome.1 in
+    let settled : settled_in (numbered w.post s.number) ≡ Some (settleds.Answered answered.n) =
+    settled_at w.post s.number s.message (Some (settleds.Answered answered.n)) s.at answered.settled in
+    let answering : Answering w s.number answered.n = telling.settled s.number answered.n settled in
     let one : answering.message ≡ answered.message = same_message w.post answered.n answering.message answered.message answering.at answered.at in
     let said : answering.says ≡ says.Promoted outcome.0 =
     same_answer _ _ (ap (λ (c : Content). answer_in c) (sym answering.carries) ∙ ap (λ (m : Message). answer_in m.content) one ∙ answered.carries) in
-    let fits : AnswerFits w s.k answering.from answering.says =
-    telling.answers answered.n answering.message answering.command s.k answering.from answering.says answering.at answering.carries in
-    let two : fits.there ≡ s.message = same_message w.post s.k fits.there s.message fits.at s.at in
-    let same = same_call fits.command fits.term answering.from fits.call s.command x.term x.to x.call
-    (one_content fits.there s.message _ _ two fits.carries s.carries) in
+    let fits : AnswerFits w s.number answering.from answering.says =
+    telling.answers answered.n answering.message answering.command s.number answering.from answering.says answering.at answering.carries in
+    let two : fits.there ≡ s.message = same_message w.post s.number fits.there s.message fits.at s.at in
+    let same = same_call fits.command fits.term answering.from fits.call s.command t a s.call
+    (one_content fits.there s.message (contents.Asks fits.command fits.term answering.from fits.call) (contents.Asks s.command t a s.call) two fits.carries s.carries) in
     let row : has_row (w.tablets answering.from).log fits.term ≡ true =
     subst (λ (y : Answer). RowIfPromoted (w.tablets answering.from).log fits.term y) said fits.row in
-    let asked : s.message.content ≡ contents.Asks s.command x.term x.to (calls.Promote call.0) =
-    s.carries ∙ ap (λ (f : Call). contents.Asks s.command x.term x.to f) call.1 in
+    let asked : s.message.content ≡ contents.Asks s.command t a (calls.Promote call.0) =
+    s.carries ∙ ap (λ (f : Call). contents.Asks s.command t a f) call.1 in
     record {
-      intended = subst (λ (c : Content). Fits w c) asked (sound.post s.k s.message s.at);
-      row = subst (λ (b : Alias). has_row (w.tablets b).log x.term ≡ true) same.1 (subst (λ (t : ℕ). has_row (w.tablets answering.from).log t ≡ true) same.0 row);
+      intended = subst (λ (c : Content). Fits w c) asked (sound.post s.number s.message s.at);
+      row = row_of_both w answering.from a fits.term t same.0 same.1 row;
     }
-
-same_number : (x : Sending) (t : ℕ) → (x.term == t) ≡ true → x.term ≡ t
-same_number x t h = grind (arith, nat_tests)
-
-came_row : (w : World) (done : List Act) (a : Alias) (t : ℕ) → IsSoundWorld w → IsTellingWorld w
-    → came_to_in t is_promote a is_promoted (sendings w.post done) ≡ true → IsRowThere w a t
-came_row w done a t sound telling h =
-    let r = any_sending (λ s. is_promote s.call && alias_eq s.to a && (s.term == t) && is_promoted s.outcome) (sending_of w.post) done h in
-    let x : Sending = r.1 in
-    let test : (is_promote x.call && alias_eq x.to a && (x.term == t) && is_promoted x.outcome) ≡ true = r.3 in
-    let front : (is_promote x.call && alias_eq x.to a && (x.term == t)) ≡ true =
-    both_left (is_promote x.call && alias_eq x.to a && (x.term == t)) (is_promoted x.outcome) test in
-    let names : (is_promote x.call && alias_eq x.to a) ≡ true = both_left (is_promote x.call && alias_eq x.to a) (x.term == t) front in
-    let there = sending_row w x sound telling (sending_is w.post r.0 x r.2) (both_left (is_promote x.call) (alias_eq x.to a) names)
-    (both_right (is_promote x.call && alias_eq x.to a && (x.term == t)) (is_promoted x.outcome) test) in
-    subst (λ (u : ℕ). IsRowThere w a u) (same_number x t (both_right (is_promote x.call && alias_eq x.to a) (x.term == t) front))
-    (subst (λ (b : Alias). IsRowThere w b x.term) (alias_eq_is x.to a (both_right (is_promote x.call) (alias_eq x.to a) names)) there)
 
 pub promoted_has_row : (config : Config) (w : World) (o : Option CommandState) (a : Alias) (t : ℕ) (left : List NotJoined) → IsSoundWorld w → IsTellingWorld w
     → has_cause config w o (answers.Promoted a t left) ≡ true → IsRowThere w a t
 promoted_has_row config w None a t left sound telling h = absurd (false≢true h)
-promoted_has_row config w (Some s) a t left sound telling h = came_row w s.acts a t sound telling (promoted_by config w s s.command a t left h)
+promoted_has_row config w (Some s) a t left sound telling h =
+    said_row w a t sound telling (was_said w.post s t kinds.Promote a is_promoted_answer (promoted_by config w s s.command a t left h))

@@ -40,11 +40,11 @@ replies_of config w [] = []
 replies_of config w (e ∷ es) = answer config w e ∷ replies_of config (after config w e) es
 
 -- the condition of each row holds
-abbrev all_met : Config → World → List Event → Bool
+abbrev pub all_met : Config → World → List Event → Bool
 all_met config w [] = true
 all_met config w (e ∷ es) = meets config w e && all_met config (after config w e) es
 
-abbrev world_after_events : Config → World → List Event → World
+abbrev pub world_after_events : Config → World → List Event → World
 world_after_events config w [] = w
 world_after_events config w (e ∷ es) = world_after_events config (after config w e) es
 
@@ -54,34 +54,34 @@ is_at_rest config w = list_all (λ m. is_some m.arrived || not (may_arrive w m))
 
 -- ---- three replicas
 
-abbrev alias_of : ℕ → Alias
+abbrev pub alias_of : ℕ → Alias
 alias_of uid = record { cell = codes "zone1"; uid = uid }
 
-abbrev z100 : Alias
+abbrev pub z100 : Alias
 z100 = alias_of 100
 
-abbrev z101 : Alias
+abbrev pub z101 : Alias
 z101 = alias_of 101
 
-abbrev z102 : Alias
+abbrev pub z102 : Alias
 z102 = alias_of 102
 
-abbrev server_with : ℕ → List ℕ
+abbrev pub server_with : ℕ → List ℕ
 server_with last = 0 ∷ 0 ∷ 0 ∷ 0 ∷ 0 ∷ 0 ∷ 64 ∷ 0 ∷ 128 ∷ 0 ∷ 0 ∷ 0 ∷ 0 ∷ 0 ∷ 1 ∷ last ∷ []
 
-abbrev gtid_of : ℕ → ℕ → Gtid
+abbrev pub gtid_of : ℕ → ℕ → Gtid
 gtid_of last number = record { server = server_with last; number = number }
 
 abbrev replica_of : ℕ → ℕ → Tablet
 replica_of uid last = record { alias = alias_of uid; server = server_with last; kind = types.Replica }
 
-abbrev start : ℕ
+abbrev pub start : ℕ
 start = 1704067200000
 
-abbrev three_under : Durability → Config
+abbrev pub three_under : Durability → Config
 three_under policy = record { tablets = replica_of 100 0 ∷ replica_of 101 1 ∷ replica_of 102 2 ∷ []; policy = policy; moment = start }
 
-abbrev three : Config
+abbrev pub three : Config
 three = three_under policies.None
 
 abbrev two_under : Durability → Config
@@ -90,12 +90,12 @@ two_under policy = record { tablets = replica_of 100 0 ∷ replica_of 101 1 ∷ 
 abbrev two : Config
 two = two_under policies.None
 
-abbrev commerce : ShardName
+abbrev pub commerce : ShardName
 commerce = record { keyspace = codes "commerce"; shard = codes "0" }
 
 -- ---- a reparent, a write past a cut link, and what two replicas show
 
-abbrev events_of_reparent : List Event
+abbrev pub events_of_reparent : List Event
 events_of_reparent =
     events.Begin main_name (commands.Planned commerce (Some z100) None None None false)
     ∷ events.Take 1
@@ -166,7 +166,7 @@ settle_replies = refl
 settle_met : all_met three after_reparent events_of_settle ≡ true
 settle_met = refl
 
-abbrev after_settle : World
+abbrev pub after_settle : World
 after_settle = world_after_events three after_reparent events_of_settle
 
 settled_is : is_at_rest three after_settle ≡ true

@@ -16,7 +16,7 @@ use Rattle.shard_calls.specs.declared.outcome.Written.TheVariants as written
 use Rattle.shard_calls.specs.declared.stand.Stand.{Stand}
 use Rattle.shard_calls.specs.declared.stand.Stand.TheVariants as stand
 use Rattle.replication.specs.Acks.{raised}
-use Rattle.shard_calls.specs.Groups.{Group}
+use Rattle.shard_calls.specs.declared.group.Group.{Group}
 use Rattle.shard_calls.specs.Stands.{is_down, is_stopped, is_primary_of, is_replica_in, is_feeder_in, primary_term, takes_from}
 use Rattle.gtid_sets.specs.Logs.{position_of, has_row, newest_row, newest_row_names, row_or_zero}
 use Rattle.shard_calls.specs.Tablets.{TabletState, Verdict, only_says, in_term, stops, demotes, promotes, joins, feeds, waits_for_position, waits_told, verdict, after_call, accepts, after_ack, writes_own}

@@ -3,6 +3,7 @@ pub mod MoveLemmas
 pub mod LawLemmas
 pub mod ListLemmas
 pub mod Examples
+pub mod ReparentExamples
 pub mod TouchLemmas
 pub mod PostLemmas
 pub mod LogChangeLemmas

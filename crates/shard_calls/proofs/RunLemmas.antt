@@ -28,8 +28,9 @@ use Rattle.shard_calls.specs.declared.state.CommandState.{CommandState}
 use Rattle.shard_calls.specs.declared.state.Wrote.{Wrote}
 use Rattle.shard_calls.specs.declared.stand.Stand.TheVariants as stands
 use Rattle.shard_calls.specs.Stands.{is_primary_of}
-use Rattle.gtid_sets.specs.Logs.{row_term, is_row_of, has_row}
-use Rattle.shard_calls.specs.Groups.{Group}
+use Rattle.gtid_sets.specs.Position.{Position, covers}
+use Rattle.gtid_sets.specs.Logs.{position_of, row_term, is_row_of, has_row}
+use Rattle.shard_calls.specs.declared.group.Group.{Group}
 use Rattle.shard_calls.specs.Tablets.{TabletState, answer_to, is_row_told}
 use Rattle.shard_calls.specs.Laws.{HasItsRow}
 use Rattle.shard_calls.specs.World.{Config, IsConfig, World, opening, numbered, open_command}
@@ -160,10 +161,17 @@ one_intent config steps run = one_intent_a_term _ (sound_whole config (opening c
 
 -- ---- promotions
 
--- the row of the term comes into the log of this tablet, as the term intends
-record RowComes (w : World) (a : Alias) (u : ℕ) : Type 0 where
-  intended : IsIntended w.topo u a
-  none : has_row (w.tablets a).log u ≡ false
+-- the row of the term comes into the log of this tablet, as the term intends and a call asked for it
+pub record RowComes (w : World) (a : Alias) (u : ℕ) : Type 0 where
+  pub intended : IsIntended w.topo u a
+  pub none : has_row (w.tablets a).log u ≡ false
+  pub number : ℕ
+  pub message : Message
+  pub command : ℕ
+  pub position : Position
+  pub at : numbered w.post number ≡ Some message
+  pub carries : message.content ≡ contents.Asks command u a (calls.Promote position)
+  pub covered : covers (position_of (w.tablets a).log) position ≡ true
 
 row_comes : (config : Config) (w : World) (a : Alias) (ev : Event) (log before : List Entry) (row : Entry) (u : ℕ) → IsSoundWorld w → LogChange config w a ev log
     → IsNewIn (w.tablets a).log log before row → row.kind ≡ kinds.Row u a → RowComes w a u
@@ -173,7 +181,8 @@ row_comes config w a _ _ before row u sound (RowEnters k d v p me m here carries
     let kinds_meet : kinds.Row v me.alias ≡ kinds.Row u a = sym (ap (λ (e : Entry). e.kind) last) ∙ is in
     let same : v ≡ u = cc in
     let fits : IsIntended w.topo v a = subst (λ c. Fits w c) carries (sound.post k m here) in
-    subst (λ (t : ℕ). RowComes w a t) same (record { intended = fits; none = none })
+    subst (λ (t : ℕ). RowComes w a t) same
+    (record { intended = fits; none = none; number = k; message = m; command = d; position = p; at = here; carries = carries; covered = caught })
 row_comes config w a _ _ before row u sound (EntryComes k term behind index from x m here carries takes fresh) new is =
     let last : row ≡ x = last_is (w.tablets a).log before new.rest x row new.split new.later in
     let fed : Fits w (contents.Feeds from a term behind index x) = subst (λ c. Fits w c) carries (sound.post k m here) in
@@ -187,7 +196,7 @@ row_comes config w a _ _ before row u sound (OwnEntry me k none found) new is =
     let last = last_is (w.tablets a).log before new.rest _ row new.split new.later in
     absurd (no_row k u a none (sym (ap (λ (e : Entry). e.kind) last) ∙ is))
 
-promotion_comes : (config : Config) (ss : List Step) (i u : ℕ) (a : Alias) (before : List Entry) → IsRun config ss → IsPromotion config ss i u a before
+pub promotion_comes : (config : Config) (ss : List Step) (i u : ℕ) (a : Alias) (before : List Entry) → IsRun config ss → IsPromotion config ss i u a before
     → RowComes (world_at config ss i) a u
 promotion_comes config ss i u a before run p =
     row_comes config (world_at config ss i) a p.step.event _ before p.row u (sound_at config ss i run)
@@ -442,6 +451,8 @@ tells_in config w c (ends.NotPrimary b at) a truth h is = absurd (let none : Non
 tells_in config w c ends.NoPrimaryRecorded a truth h is = absurd (let none : None ≡ Some a = is in cc)
 tells_in config w c (ends.Unknown g b t) a truth h is = absurd (let none : None ≡ Some a = is in cc)
 tells_in config w c (ends.Shown b at p) a truth h is = absurd (let none : None ≡ Some a = is in cc)
+tells_in config w c (ends.Shard shard recorded) a truth h is = absurd (let none : None ≡ Some a = is in cc)
+tells_in config w c (ends.Tablets rows) a truth h is = absurd (let none : None ≡ Some a = is in cc)
 
 pub keeps_told : OfEveryRun KeepsTold
 keeps_told config ss run i x a ended is =

@@ -12,6 +12,7 @@ use Rattle.gtid_sets.specs.declared.entry.Entry.{Entry}
 use Rattle.gtid_sets.specs.declared.entry.Kind.{Kind}
 use Rattle.gtid_sets.specs.declared.entry.Kind.TheVariants as kinds
 use Rattle.gtid_sets.specs.Position.{Position, greatest}
+use Rattle.durability.specs.Policies.{rules_of}
 use Rattle.topo_lock.specs.Topology.{Topology}
 use Rattle.topo_lock.specs.Moves.{Goes}
 use Rattle.shard_calls.specs.declared.call.Call.{Call}
@@ -27,9 +28,10 @@ use Rattle.gtid_sets.specs.Logs.{row_term, row_or_zero, newest_row, holds, with_
 use Rattle.shard_calls.specs.Tablets.{TabletState}
 use Rattle.shard_calls.specs.Moves.{TabletMove, Stays}
 use Rattle.shard_calls.specs.Laws.{IsSound, IsPromised, RowsWithin, WaitsForEntry}
-use Rattle.shard_calls.specs.World.{Config, World, numbered, open_command, term_in, is_eligible_alias}
+use Rattle.shard_calls.specs.World.{Config, World, numbered, open_command, term_in}
 use Rattle.shard_calls.specs.Messages.{feeds_term, Indexed, needed_from, sends_all_from, needed, may_feed, is_cut, is_under_way, link_between, feed_of, offered_by, has_come_to}
-use Rattle.shard_calls.specs.Evidence.{intends, has_ground}
+use Rattle.shard_calls.specs.Evidence.{intends}
+use Rattle.shard_calls.specs.Grounds.{calls_of, has_any_ground, may_lead}
 use Rattle.shard_calls.specs.Locks.{by_term}
 use Rattle.shard_calls.specs.Deliveries.{may_send, may_ask_in, asks_status}
 use Rattle.shard_calls.specs.Table.{Met, after}
@@ -75,8 +77,9 @@ asked_in config w c a calls.Status u sound met = tt
 asked_in config w c a calls.Stop u sound met = tt
 asked_in config w c a calls.Demote u sound met = tt
 asked_in config w c a (calls.Promote p) u sound met =
-    let front : (is_eligible_alias config a && intends w.topo u a) ≡ true = both_left (is_eligible_alias config a && intends w.topo u a) (has_ground config w c u p) met in
-    intended_by w.topo u a (both_right (is_eligible_alias config a) (intends w.topo u a) front)
+    let leads : Bool = may_lead (rules_of config.policy) (tablet_of config.tablets a) in
+    let ground : Bool = has_any_ground (rules_of config.policy) config.tablets w.topo (calls_of w c) u p in
+    intended_by w.topo u a (both_right leads (intends w.topo u a) (both_left (leads && intends w.topo u a) ground met))
 asked_in config w c a (calls.SetSource source t p) u sound met = grind (arith, nat_tests)
 asked_in config w c a calls.Feed u sound met = tt
 asked_in config w c a (calls.WaitFor p until) u sound met = tt

@@ -91,10 +91,10 @@ by_wrote : (w : World) (c : ℕ) (f : ℕ → World) (o : Option ℕ) → ((t : 
 by_wrote w c f None h = refl
 by_wrote w c f (Some t) h = h t
 
-intended_keeps : (r : Result (Unit {0}) TopoFault) (x : CommandState) → (with_intended r x).wrote ≡ x.wrote
-intended_keeps (Ok u) x = refl
-intended_keeps (Err (faults.LockLost current)) x = refl
-intended_keeps (Err (faults.IntentStands b)) x = refl
+intended_keeps : (a : Alias) (r : Result (Unit {0}) TopoFault) (x : CommandState) → (with_intended a r x).wrote ≡ x.wrote
+intended_keeps a (Ok u) x = refl
+intended_keeps a (Err (faults.LockLost current)) x = refl
+intended_keeps a (Err (faults.IntentStands b)) x = refl
 
 recorded_keeps : (a : Alias) (r : Result (Unit {0}) TopoFault) (x : CommandState) → (with_recorded a r x).wrote ≡ x.wrote
 recorded_keeps a (Ok u) x = refl
@@ -153,7 +153,7 @@ wrote_cases config w (events.Begin name command) c = inl (push_wrote w.commands 
 wrote_cases config w (events.Take d) c = inl (take_wrote w d c (open_command w d))
 wrote_cases config w (events.Read d) c = inl (by_wrote w c (reads w d) (term_of w d) (λ t. keep_wrote w.commands d c _ (λ s. refl)))
 wrote_cases config w (events.Intend d a) c =
-    inl (by_wrote w c (intends_in w d a) (term_of w d) (λ t. keep_wrote w.commands d c _ (intended_keeps (answer_intend w.topo t a))))
+    inl (by_wrote w c (intends_in w d a) (term_of w d) (λ t. keep_wrote w.commands d c _ (intended_keeps a (answer_intend w.topo t a))))
 wrote_cases config w (events.Record d a) c =
     inl (by_wrote w c (records_in w d a) (term_of w d) (λ t. keep_wrote w.commands d c _ (recorded_keeps a (answer_record w.topo t))))
 wrote_cases config w (events.Release d) c = inl (by_wrote w c (releases_in w d) (term_of w d) (λ t. keep_wrote w.commands d c as_released (λ s. refl)))

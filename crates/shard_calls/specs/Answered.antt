@@ -1,5 +1,5 @@
 -- What the answers of a history rest on, read off its steps. After the answers of PlannedReparentShard (Vitess manual).
-use Rattle.std.specs.Prelude.{◌≡◌, ℕ, true, ◌==◌, List, Option, Some, None, if◌then◌else◌, slice_get, filter_map, [], ◌∷◌}
+use Rattle.std.specs.Prelude.{◌≡◌, ℕ, true, false, ◌==◌, List, Option, Some, None, Ok, Err, if◌then◌else◌, slice_get, filter_map, [], ◌∷◌}
 use Rattle.shard_names.specs.declared.alias.Alias.{Alias}
 use Rattle.shard_calls.specs.declared.ending.CommandAnswer.{CommandAnswer}
 use Rattle.shard_calls.specs.declared.event.Event.{Event}
@@ -24,34 +24,37 @@ use Rattle.shard_calls.specs.declared.post.Settled.TheVariants as settleds
 -- ---- the acts of a command, as its steps show them
 
 abbrev pub taken_by_reply : Reply → Option Act
-taken_by_reply (replies.Taken term by) = Some (acts.Taken term by)
+taken_by_reply (replies.Term term) = Some (acts.Took (Ok term))
+taken_by_reply (replies.Taken term by) = Some (acts.Took (Err (record { term = term; actor = by })))
 taken_by_reply _ = None
 
 abbrev pub read_by_reply : Reply → Option Act
-read_by_reply (replies.Read seen) = Some (acts.Read seen)
-read_by_reply (replies.Lost term) = Some (acts.Lost term)
+read_by_reply (replies.Read seen) = Some (acts.Read (Ok seen))
+read_by_reply (replies.Lost term) = Some (acts.Read (Err term))
 read_by_reply _ = None
 
-abbrev pub lost_by_reply : Reply → Option Act
-lost_by_reply (replies.Lost term) = Some (acts.Lost term)
-lost_by_reply _ = None
+abbrev pub intended_by_reply : Alias → Reply → Option Act
+intended_by_reply a replies.Ok = Some (acts.Intended a (Ok tt))
+intended_by_reply a (replies.Lost term) = Some (acts.Intended a (Err term))
+intended_by_reply a _ = None
 
 abbrev pub recorded_by_reply : Alias → Reply → Option Act
-recorded_by_reply a replies.Ok = Some (acts.Recorded a)
-recorded_by_reply a (replies.Lost term) = Some (acts.Lost term)
+recorded_by_reply a replies.Ok = Some (acts.Recorded a (Ok tt))
+recorded_by_reply a (replies.Lost term) = Some (acts.Recorded a (Err term))
 recorded_by_reply a _ = None
 
 abbrev pub sent_by_reply : Reply → Option Act
 sent_by_reply (replies.Message k) = Some (acts.Sent k)
 sent_by_reply _ = None
 
-abbrev pub not_primary_by_reply : Alias → Reply → Option Act
-not_primary_by_reply a (replies.NotPrimary at) = Some (acts.NotPrimary a at)
-not_primary_by_reply a _ = None
+abbrev pub written_by_reply : Alias → Reply → Option Act
+written_by_reply a (replies.Wrote g) = Some (acts.Wrote a (Ok g))
+written_by_reply a (replies.NotPrimary at) = Some (acts.Wrote a (Err at))
+written_by_reply a _ = None
 
 abbrev pub told_by_reply : Reply → Option Act
-told_by_reply replies.Told = Some acts.Told
-told_by_reply replies.Gone = Some acts.Gone
+told_by_reply replies.Told = Some (acts.Told true)
+told_by_reply replies.Gone = Some (acts.Told false)
 told_by_reply _ = None
 
 abbrev pub if_own : ℕ → ℕ → Option Act → Option Act
@@ -62,7 +65,7 @@ abbrev pub act_of : ℕ → Event → Reply → Option Act
 act_of c (events.Begin name command) r = None
 act_of c (events.Take d) r = if_own d c (taken_by_reply r)
 act_of c (events.Read d) r = if_own d c (read_by_reply r)
-act_of c (events.Intend d a) r = if_own d c (lost_by_reply r)
+act_of c (events.Intend d a) r = if_own d c (intended_by_reply a r)
 act_of c (events.Record d a) r = if_own d c (recorded_by_reply a r)
 act_of c (events.Release d) r = None
 act_of c events.Lapse r = None
@@ -70,7 +73,7 @@ act_of c (events.Send d a call) r = if_own d c (sent_by_reply r)
 act_of c (events.Deliver k) r = None
 act_of c (events.GiveUp d k) r = None
 act_of c (events.Offer a) r = None
-act_of c (events.Write d a) r = if_own d c (not_primary_by_reply a r)
+act_of c (events.Write d a) r = if_own d c (written_by_reply a r)
 act_of c (events.Tell d) r = if_own d c (told_by_reply r)
 act_of c (events.Local a) r = None
 act_of c (events.Crash a keep) r = None

@@ -1,31 +1,56 @@
--- The cause of an answer: what has to hold where a command ends with it. After the answers of PlannedReparentShard and the promotion rules
--- (Vitess manual); that a write whose primary was replaced is neither committed nor refused is after Sougoumarane's "Consensus algorithms at
--- scale".
-use Rattle.std.specs.Prelude.{ℕ, Bool, true, false, not, ◌&&◌, ◌||◌, ◌==◌, List, [], ◌∷◌, Option, Some, None, is_none, filter_map}
-use Rattle.std.specs.List.{list_any}
+-- The cause of an answer: what has to hold where a command ends with it, read off what it did and what its calls came to. Several may hold at once.
+-- After the answers of PlannedReparentShard, EmergencyReparentShard and TabletExternallyReparented (Vitess manual); that a write whose primary was
+-- replaced is neither committed nor refused is after Sougoumarane's "Consensus algorithms at scale".
+use Rattle.std.specs.Prelude.{ℕ, Bool, true, false, not, ◌&&◌, ◌||◌, ◌==◌, List, [], ◌∷◌, map, filter, Option, Some, None, is_none, Result, Ok, Err, if◌then◌else◌}
+use Rattle.std.specs.List.{list_any, flat_map}
 use Rattle.std.specs.Str.{bytes_eq}
 use Rattle.shard_base.specs.Options.{◌>>=◌}
-use Rattle.shard_names.specs.Tablets.{alias_eq, is_declared}
 use Rattle.shard_names.specs.declared.alias.Alias.{Alias}
+use Rattle.shard_names.specs.declared.shard_name.ShardName.{ShardName}
+use Rattle.shard_names.specs.declared.tablet.Tablet.{Tablet}
+use Rattle.shard_names.specs.declared.tablet.TabletType.{TabletType}
+use Rattle.shard_names.specs.declared.tablet.TabletType.TheVariants as types
+use Rattle.shard_names.specs.Tablets.{alias_eq, is_among}
 use Rattle.gtid_sets.specs.Gtid.{gtid_eq}
 use Rattle.gtid_sets.specs.declared.gtid.Gtid.{Gtid}
 use Rattle.gtid_sets.specs.Position.{Position, covers}
 use Rattle.topo_lock.specs.declared.intent.Intent.{Intent}
+use Rattle.topo_lock.specs.declared.intent.Record.{Record}
+use Rattle.shard_calls.specs.declared.answer.Answer.{Answer}
 use Rattle.shard_calls.specs.declared.answer.Answer.TheVariants as says
-use Rattle.shard_calls.specs.declared.call.Call.{Call}
-use Rattle.shard_calls.specs.declared.call.Call.TheVariants as calls
 use Rattle.shard_calls.specs.declared.command.Command.{Command}
 use Rattle.shard_calls.specs.declared.command.Command.TheVariants as commands
+use Rattle.shard_calls.specs.declared.command.EmergencyOptions.{EmergencyOptions}
+use Rattle.shard_calls.specs.declared.command.PlannedOptions.{PlannedOptions}
 use Rattle.shard_calls.specs.declared.ending.CommandAnswer.{CommandAnswer}
 use Rattle.shard_calls.specs.declared.ending.CommandAnswer.TheVariants as answers
 use Rattle.shard_calls.specs.declared.ending.Left.{Left}
 use Rattle.shard_calls.specs.declared.ending.Left.TheVariants as lefts
 use Rattle.shard_calls.specs.declared.ending.NotJoined.{NotJoined}
+use Rattle.shard_calls.specs.declared.ending.ShownType.{ShownType}
+use Rattle.shard_calls.specs.declared.ending.ShownType.TheVariants as shown_types
+use Rattle.shard_calls.specs.declared.ending.TabletRow.{TabletRow}
+use Rattle.shard_calls.specs.declared.event.Seen.{Seen}
+use Rattle.shard_calls.specs.declared.group.Group.{Group}
+use Rattle.shard_calls.specs.declared.refusal.Bar.{Bar}
+use Rattle.shard_calls.specs.declared.refusal.Bar.TheVariants as bars
+use Rattle.shard_calls.specs.declared.refusal.NotStopped.{NotStopped}
+use Rattle.shard_calls.specs.declared.refusal.Reason.{Reason}
+use Rattle.shard_calls.specs.declared.refusal.Reason.TheVariants as reasons
 use Rattle.shard_calls.specs.declared.refusal.Refusal.{Refusal}
 use Rattle.shard_calls.specs.declared.refusal.Refusal.TheVariants as refusals
-use Rattle.shard_calls.specs.declared.refusal.Bar.TheVariants as bars
+use Rattle.shard_calls.specs.declared.refusal.Rejected.{Rejected}
+use Rattle.shard_calls.specs.declared.refusal.Unacked.{Unacked}
 use Rattle.shard_calls.specs.declared.refusal.Unacked.TheVariants as unackeds
-use Rattle.shard_calls.specs.declared.post.Message.{Message}
+use Rattle.shard_calls.specs.declared.refusal.Unreached.{Unreached}
+use Rattle.shard_calls.specs.declared.refusal.Unreached.TheVariants as unreacheds
+use Rattle.shard_calls.specs.declared.span.Asked.{Asked}
+use Rattle.shard_calls.specs.declared.span.Deed.{Deed}
+use Rattle.shard_calls.specs.declared.span.Deed.TheVariants as deeds
+use Rattle.shard_calls.specs.declared.span.Kind.{Kind}
+use Rattle.shard_calls.specs.declared.span.Kind.TheVariants as kinds
+use Rattle.shard_calls.specs.declared.span.Outcome.{Outcome}
+use Rattle.shard_calls.specs.declared.span.Outcome.TheVariants.{Answered, GivenUp}
 use Rattle.shard_calls.specs.declared.stand.Standing.{Standing}
 use Rattle.shard_calls.specs.declared.stand.Standing.TheVariants as standings
 use Rattle.shard_calls.specs.declared.state.Act.{Act}
@@ -35,224 +60,333 @@ use Rattle.shard_calls.specs.declared.state.Shown.{Shown}
 use Rattle.shard_calls.specs.declared.state.Wrote.{Wrote}
 use Rattle.shard_calls.specs.declared.why.Why.{Why}
 use Rattle.shard_calls.specs.declared.why.Why.TheVariants as whys
+use Rattle.shard_calls.specs.Choosing.{are_settled, candidates, first_of, follower}
+use Rattle.shard_calls.specs.Commands.{planned_with, emergency_with}
+use Rattle.shard_calls.specs.Kinds.{kind_eq}
+use Rattle.shard_calls.specs.Refusals.{refusal_after, refusal_by_demoted, refusal_by_seen, refusal_by_topology, refusal_of_crossing, refusal_of_emergency, refusal_of_planned, refusal_of_undeclared, term_of_promoted}
+use Rattle.shard_calls.specs.Rescuing.{heeded, refusal_of_unrevoked, rescuer, stale_in, winner_of}
+use Rattle.shard_calls.specs.Same.{not_joined_eq, position_eq, record_or_none_eq, refusal_eq, rows_eq, shard_name_eq, standing_eq}
+use Rattle.shard_calls.specs.Spans.{span_in}
 use Rattle.shard_calls.specs.Stands.{is_primary_of, standing_of}
-use Rattle.shard_calls.specs.Outcomes.{Outcome, Answered, GivenUp, Sending, sendings}
-use Rattle.shard_calls.specs.World.{Config, World, is_eligible_alias}
+use Rattle.shard_calls.specs.World.{Config, World, group_of}
 
--- ---- whether two of a kind are one
+-- whether it is this one, if there is one
+abbrev pub is_this : Refusal → Option Refusal → Bool
+is_this r None = false
+is_this r (Some x) = refusal_eq x r
 
-abbrev pub position_eq : Position → Position → Bool
-position_eq p q = covers p q && covers q p
-
-abbrev pub why_eq : Why → Why → Bool
-why_eq whys.Down whys.Down = true
-why_eq whys.Cut whys.Cut = true
-why_eq whys.Lost whys.Lost = true
-why_eq (whys.TimedOut since now) (whys.TimedOut from to) = (since == from) && (now == to)
-why_eq x y = false
-
-abbrev pub standing_eq : Standing → Standing → Bool
-standing_eq standings.Down standings.Down = true
-standing_eq standings.Stopped standings.Stopped = true
-standing_eq (standings.Primary t) (standings.Primary u) = t == u
-standing_eq (standings.Demoted t by) (standings.Demoted u other) = (t == u) && (by == other)
-standing_eq (standings.Replica a t) (standings.Replica b u) = alias_eq a b && (t == u)
-standing_eq (standings.Feeder t) (standings.Feeder u) = t == u
-standing_eq x y = false
-
-abbrev pub left_eq : Left → Left → Bool
-left_eq (lefts.Errant p) (lefts.Errant q) = position_eq p q
-left_eq (lefts.GivenUp x) (lefts.GivenUp y) = why_eq x y
-left_eq (lefts.StaleTerm t) (lefts.StaleTerm u) = t == u
-left_eq (lefts.PromisedAhead t) (lefts.PromisedAhead u) = t == u
-left_eq x y = false
-
-abbrev pub not_joined_eq : List NotJoined → List NotJoined → Bool
-not_joined_eq [] [] = true
-not_joined_eq [] (y ∷ ys) = false
-not_joined_eq (x ∷ xs) [] = false
-not_joined_eq (x ∷ xs) (y ∷ ys) = alias_eq x.alias y.alias && left_eq x.left y.left && not_joined_eq xs ys
+abbrev pub is_err_of : {A : Type 0} → Refusal → Result A Refusal → Bool
+is_err_of r (Ok x) = false
+is_err_of r (Err x) = refusal_eq x r
 
 abbrev pub is_some_of : Option ℕ → ℕ → Bool
 is_some_of None n = false
 is_some_of (Some m) n = m == n
 
--- ---- what the topology answered
+-- ---- what refuses a reparent
 
-abbrev pub is_of_term : ℕ → Option Intent → Bool
-is_of_term t None = false
-is_of_term t (Some i) = i.term == t
+-- the refusal by a call of such a kind
+abbrev pub refusal_of_asked : (Kind → Bool) → Asked → Option Refusal
+refusal_of_asked needed x = if needed x.kind then x.outcome >>= refusal_after x else None
 
--- the lock was taken already, in this term by this actor
-abbrev pub says_taken : ℕ → List ℕ → Act → Bool
-says_taken t by (acts.Taken u name) = (u == t) && bytes_eq name by
-says_taken t by _ = false
+abbrev pub refusal_by_call : (Kind → Bool) → Deed → Option Refusal
+refusal_by_call needed (deeds.Asked x) = refusal_of_asked needed x
+refusal_by_call needed _ = None
 
--- the lock was lost, and the topology at this term
-abbrev pub says_lost : ℕ → Act → Bool
-says_lost t (acts.Lost u) = u == t
-says_lost t _ = false
+-- such a call refuses the command so
+abbrev pub call_refuses : (Kind → Bool) → Refusal → List Deed → Bool
+call_refuses needed r span = list_any (λ d. is_this r (refusal_by_call needed d)) span
 
--- an intent of this term was read
-abbrev pub says_intent : ℕ → Act → Bool
-says_intent t (acts.Read seen) = is_of_term t seen.intent
-says_intent t _ = false
+abbrev pub topology_refuses : Refusal → List Deed → Bool
+topology_refuses r span = list_any (λ d. is_this r (refusal_by_topology d)) span
 
-abbrev pub says_recorded : Alias → Act → Bool
-says_recorded a (acts.Recorded b) = alias_eq b a
-says_recorded a _ = false
+-- what was read of the topology passes this
+abbrev pub read_passes : (Seen → Bool) → Deed → Bool
+read_passes test (deeds.Read (Ok seen)) = test seen
+read_passes test _ = false
 
--- ---- what the tablets answered
+abbrev pub any_read : (Seen → Bool) → List Deed → Bool
+any_read test span = list_any (read_passes test) span
 
-abbrev pub is_promote : Call → Bool
-is_promote calls.Status = false
-is_promote calls.Stop = false
-is_promote calls.Demote = false
-is_promote (calls.Promote p) = true
-is_promote (calls.SetSource source t p) = false
-is_promote calls.Feed = false
-is_promote (calls.WaitFor p until) = false
-is_promote (calls.WaitTold until) = false
+abbrev pub is_call : Kind → Deed → Bool
+is_call kind (deeds.Asked x) = kind_eq x.kind kind
+is_call kind _ = false
 
-abbrev pub is_wait_told : Call → Bool
-is_wait_told calls.Status = false
-is_wait_told calls.Stop = false
-is_wait_told calls.Demote = false
-is_wait_told (calls.Promote p) = false
-is_wait_told (calls.SetSource source t p) = false
-is_wait_told calls.Feed = false
-is_wait_told (calls.WaitFor p until) = false
-is_wait_told (calls.WaitTold until) = true
+-- the calls of one kind
+abbrev pub calls_of : Kind → List Deed → List Deed
+calls_of kind span = filter (is_call kind) span
 
-abbrev pub is_set_source : Call → Bool
-is_set_source calls.Status = false
-is_set_source calls.Stop = false
-is_set_source calls.Demote = false
-is_set_source (calls.Promote p) = false
-is_set_source (calls.SetSource source t p) = true
-is_set_source calls.Feed = false
-is_set_source (calls.WaitFor p until) = false
-is_set_source (calls.WaitTold until) = false
+-- what such a call of the tablet was answered passes this
+abbrev pub outcome_passes : (Answer → Bool) → Option Outcome → Bool
+outcome_passes test (Some (Answered answer)) = test answer
+outcome_passes test _ = false
 
--- a call for want of which a reparent is refused
-abbrev pub is_needed : Call → Bool
-is_needed call = is_promote call || is_wait_told call
+abbrev pub answer_passes : Kind → Alias → (Answer → Bool) → Deed → Bool
+answer_passes kind a test (deeds.Asked x) = kind_eq x.kind kind && alias_eq x.alias a && outcome_passes test x.outcome
+answer_passes kind a test _ = false
 
-abbrev pub is_promoted : Option Outcome → Bool
-is_promoted (Some (Answered (says.Promoted p))) = true
-is_promoted _ = false
+abbrev pub any_answer : Kind → Alias → (Answer → Bool) → List Deed → Bool
+any_answer kind a test span = list_any (answer_passes kind a test) span
 
-abbrev pub is_told_so : Option Outcome → Bool
-is_told_so (Some (Answered says.Told)) = true
-is_told_so _ = false
+abbrev pub is_intended : Deed → Bool
+is_intended (deeds.Intended a reply) = true
+is_intended _ = false
 
-abbrev pub is_not_told : Option Outcome → Bool
-is_not_told (Some (Answered says.NotTold)) = true
-is_not_told _ = false
+-- what was done before this
+abbrev pub before_first : (Deed → Bool) → List Deed → List Deed
+before_first test [] = []
+before_first test (d ∷ ds) = if test d then [] else d ∷ before_first test ds
 
-abbrev pub is_given_up : Why → Option Outcome → Bool
-is_given_up why (Some (GivenUp x)) = why_eq x why
-is_given_up why _ = false
+-- ---- of a PlannedReparentShard
 
-abbrev pub is_stale : ℕ → Option Outcome → Bool
-is_stale seen (Some (Answered (says.StaleTerm t))) = t == seen
-is_stale seen _ = false
+-- the calls for want of which it is refused before anything is undone
+abbrev pub is_needed_by_planned : Kind → Bool
+is_needed_by_planned kinds.Status = false
+is_needed_by_planned kinds.Stop = false
+is_needed_by_planned kinds.Demote = true
+is_needed_by_planned kinds.Promote = true
+is_needed_by_planned kinds.SetSource = false
+is_needed_by_planned kinds.Feed = false
+is_needed_by_planned kinds.WaitFor = false
+is_needed_by_planned kinds.WaitTold = true
 
-abbrev pub is_kept : Standing → Option Outcome → Bool
-is_kept at (Some (Answered (says.Kept stand))) = standing_eq (standing_of stand) at
-is_kept at _ = false
+-- those by which a tablet catches up with the old primary
+abbrev pub is_of_catching_up : Kind → Bool
+is_of_catching_up kinds.Status = false
+is_of_catching_up kinds.Stop = false
+is_of_catching_up kinds.Demote = false
+is_of_catching_up kinds.Promote = false
+is_of_catching_up kinds.SetSource = true
+is_of_catching_up kinds.Feed = false
+is_of_catching_up kinds.WaitFor = true
+is_of_catching_up kinds.WaitTold = false
 
-abbrev pub is_short_of : Position → Option Outcome → Bool
-is_short_of missing (Some (Answered (says.NotCaughtUp p))) = position_eq p missing
-is_short_of missing _ = false
+-- the first tablet that it intended is this one, after it had told a tablet to replicate
+abbrev pub intends_first : Alias → List Deed → Bool
+intends_first a [] = false
+intends_first a (deeds.Intended b reply ∷ ds) = alias_eq b a
+intends_first a (d ∷ ds) = intends_first a ds
 
--- such a call to this tablet came to this
-abbrev pub came_to : (Call → Bool) → Alias → (Option Outcome → Bool) → List Sending → Bool
-came_to kind a test sent = list_any (λ s. kind s.call && alias_eq s.to a && test s.outcome) sent
+-- it tried to give the place back to the old primary
+abbrev pub undoes : Alias → List Deed → Bool
+undoes old span = list_any (is_call kinds.SetSource) (before_first is_intended span) && intends_first old span
 
--- such a call of this term to this tablet came to this
-abbrev pub came_to_in : ℕ → (Call → Bool) → Alias → (Option Outcome → Bool) → List Sending → Bool
-came_to_in t kind a test sent = list_any (λ s. kind s.call && alias_eq s.to a && (s.term == t) && test s.outcome) sent
+abbrev pub is_undo_of : Option Intent → List Deed → Bool
+is_undo_of None span = false
+is_undo_of (Some i) span = undoes i.alias span
 
--- ---- who did not join
+-- whether the old primary was promoted again
+abbrev pub is_promoted_answer : Answer → Bool
+is_promoted_answer (says.Promoted p) = true
+is_promoted_answer _ = false
 
-abbrev pub left_by : Option Outcome → Option Left
-left_by None = None
-left_by (Some (GivenUp why)) = Some (lefts.GivenUp why)
-left_by (Some (Answered (says.Errant extra))) = Some (lefts.Errant extra)
-left_by (Some (Answered (says.StaleTerm seen))) = Some (lefts.StaleTerm seen)
-left_by (Some (Answered (says.PromisedAhead promised))) = Some (lefts.PromisedAhead promised)
-left_by (Some (Answered says.Joined)) = None
-left_by (Some (Answered (says.Kept stand))) = None
-left_by (Some (Answered (says.Status seen promised stand newest p))) = None
-left_by (Some (Answered (says.Stopped newest p))) = None
-left_by (Some (Answered (says.Demoted newest p))) = None
-left_by (Some (Answered (says.Promoted p))) = None
-left_by (Some (Answered says.Feeding)) = None
-left_by (Some (Answered says.Holds)) = None
-left_by (Some (Answered says.Told)) = None
-left_by (Some (Answered says.NotTold)) = None
-left_by (Some (Answered (says.NotCaughtUp missing))) = None
-left_by (Some (Answered (says.NotStanding newest))) = None
+abbrev pub is_promoted_again : Alias → List Deed → Bool
+is_promoted_again old span = any_answer kinds.Promote old is_promoted_answer span
 
-abbrev pub not_joined : Sending → Option NotJoined
-not_joined s = elim (is_set_source s.call) [ true ↦ left_by s.outcome >>= (λ left. Some (record { alias = s.to; left = left })) | false ↦ None ]
+-- by what it was told that was demoted
+abbrev pub demoted_refuses : Intent → Refusal → Answer → Bool
+demoted_refuses i r answer = is_this r (refusal_by_demoted i answer)
 
--- after one of these acts recorded the tablet, exactly these did not join
-abbrev pub leaves_out : List Message → Alias → List NotJoined → List Act → Bool
-leaves_out post a left [] = false
-leaves_out post a left (act ∷ later) = (says_recorded a act && not_joined_eq left (filter_map not_joined (sendings post later))) || leaves_out post a left later
+-- no tablet can follow the primary, by what all said that were asked, or the given one may not
+abbrev pub following_refuses : Group → PlannedOptions → Refusal → List Deed → Seen → Intent → Option Alias → Bool
+following_refuses g o r span seen i (Some c) = is_this r (refusal_of_crossing o.allow_cross_cell i.alias c)
+following_refuses g o r span seen i None =
+    are_settled (candidates g o.allow_cross_cell seen i.alias) (calls_of kinds.Status span)
+    && is_err_of r (follower g o.allow_cross_cell seen i.alias (calls_of kinds.Status span))
+
+abbrev pub intent_refuses : Group → PlannedOptions → Refusal → List Deed → Seen → Option Intent → Bool
+intent_refuses g o r span seen None = is_none o.new_primary && is_err_of r (first_of g seen o.avoid)
+intent_refuses g o r span seen (Some i) = following_refuses g o r span seen i o.new_primary || any_answer kinds.Demote i.alias (demoted_refuses i r) span
+
+abbrev pub planned_seen_refuses : Group → PlannedOptions → Refusal → List Deed → Seen → Bool
+planned_seen_refuses g o r span seen = is_this r (refusal_by_seen o.expected o.new_primary seen) || intent_refuses g o r span seen seen.intent
+
+-- where nothing was undone
+abbrev pub planned_refuses : Group → PlannedOptions → List Deed → Refusal → Bool
+planned_refuses g o span r =
+    is_this r (refusal_of_planned g o) || topology_refuses r span || any_read (planned_seen_refuses g o r span) span || call_refuses is_needed_by_planned r span
+
+abbrev pub same_answer : Bool → Bool → Bool
+same_answer b c = if b then c else not c
+
+-- where it was tried to promote the old primary again
+abbrev pub undo_refuses : List Deed → Refusal → Bool → Seen → Bool
+undo_refuses span r undone seen = elim seen.intent [
+  | None ↦ false
+  | Some i ↦ undoes i.alias span && same_answer (is_promoted_again i.alias span) undone && call_refuses is_of_catching_up r (before_first is_intended span)
+]
+
+abbrev pub planned_is_refused : Group → PlannedOptions → List Deed → Refusal → Option Bool → Bool
+planned_is_refused g o span r None = not (any_read (λ seen. is_undo_of seen.intent span) span) && planned_refuses g o span r
+planned_is_refused g o span r (Some undone) = any_read (undo_refuses span r undone) span
+
+-- another tablet is to be avoided than the primary
+abbrev pub is_idle : Option Alias → Alias → Bool
+is_idle None old = false
+is_idle (Some a) old = not (alias_eq a old)
+
+abbrev pub is_last_intended : Alias → Option Intent → Bool
+is_last_intended a None = false
+is_last_intended a (Some i) = alias_eq i.alias a
+
+-- ---- of an EmergencyReparentShard
+
+abbrev pub is_needed_by_emergency : Kind → Bool
+is_needed_by_emergency kinds.Status = false
+is_needed_by_emergency kinds.Stop = false
+is_needed_by_emergency kinds.Demote = false
+is_needed_by_emergency kinds.Promote = true
+is_needed_by_emergency kinds.SetSource = false
+is_needed_by_emergency kinds.Feed = true
+is_needed_by_emergency kinds.WaitFor = true
+is_needed_by_emergency kinds.WaitTold = true
+
+abbrev pub is_set_source_kind : Kind → Bool
+is_set_source_kind kind = kind_eq kind kinds.SetSource
+
+abbrev pub stale_refuses : Refusal → List Deed → Bool
+stale_refuses r stops = list_any (λ d. is_this r (stale_in d)) stops
+
+abbrev pub rescue_refuses : Group → EmergencyOptions → Refusal → List Deed → Seen → Bool
+rescue_refuses g o r stops seen = elim (winner_of g o seen stops) [
+  | Err x ↦ refusal_eq x r
+  | Ok w ↦ is_err_of r (rescuer g o seen stops w o.new_primary)
+]
+
+-- by all that were to be stopped
+abbrev pub stops_refuse : Group → EmergencyOptions → Refusal → List Deed → List Deed → Bool
+stops_refuse g o r stops span =
+    are_settled (heeded g o.ignored) stops && (is_this r (refusal_of_unrevoked g o.ignored stops) || any_read (rescue_refuses g o r stops) span)
+
+abbrev pub emergency_is_refused : Group → EmergencyOptions → List Deed → Refusal → Bool
+emergency_is_refused g o span r =
+    is_this r (refusal_of_emergency g o) || topology_refuses r span
+    || any_read (λ seen. is_this r (refusal_by_seen o.expected o.new_primary seen)) span
+    || stale_refuses r (calls_of kinds.Stop span) || stops_refuse g o r (calls_of kinds.Stop span) span
+    || call_refuses is_set_source_kind r (before_first is_intended span) || call_refuses is_needed_by_emergency r span
+
+-- ---- of a TabletExternallyReparented
+
+abbrev pub is_status_kind : Kind → Bool
+is_status_kind kind = kind_eq kind kinds.Status
+
+abbrev pub is_not_promoted : Alias → Option Intent → Refusal → Answer → Bool
+is_not_promoted a i r (says.Status seen promised stand newest p) = is_err_of r (term_of_promoted a newest i stand)
+is_not_promoted a i r _ = false
+
+abbrev pub external_is_refused : Group → Alias → List Deed → Refusal → Bool
+external_is_refused g a span r =
+    is_this r (refusal_of_undeclared g (Some a)) || topology_refuses r span || call_refuses is_status_kind r span
+    || any_read (λ seen. any_answer kinds.Status a (is_not_promoted a seen.intent r) span) span
+
+abbrev pub is_ok_of : ℕ → Result ℕ Refusal → Bool
+is_ok_of t (Ok u) = u == t
+is_ok_of t (Err r) = false
+
+abbrev pub stands_promoted : Alias → Option Intent → ℕ → Answer → Bool
+stands_promoted a i t (says.Status seen promised stand newest p) = is_ok_of t (term_of_promoted a newest i stand)
+stands_promoted a i t _ = false
+
+-- ---- of a promotion
+
+abbrev pub is_told_answer : Answer → Bool
+is_told_answer says.Told = true
+is_told_answer _ = false
+
+-- such a call of this term to this tablet was answered so
+abbrev pub said_in : ℕ → Kind → Alias → (Answer → Bool) → Deed → Bool
+said_in t kind a test (deeds.Asked x) = kind_eq x.kind kind && alias_eq x.alias a && (x.term == t) && outcome_passes test x.outcome
+said_in t kind a test _ = false
+
+abbrev pub any_said_in : ℕ → Kind → Alias → (Answer → Bool) → List Deed → Bool
+any_said_in t kind a test span = list_any (said_in t kind a test) span
+
+-- why a tablet that was asked to replicate does not
+abbrev pub left_by : Outcome → Option Left
+left_by (GivenUp why) = Some (lefts.GivenUp why)
+left_by (Answered (says.Errant extra)) = Some (lefts.Errant extra)
+left_by (Answered (says.StaleTerm seen)) = Some (lefts.StaleTerm seen)
+left_by (Answered (says.PromisedAhead promised)) = Some (lefts.PromisedAhead promised)
+left_by (Answered says.Joined) = None
+left_by (Answered (says.Kept stand)) = None
+left_by (Answered (says.Status seen promised stand newest p)) = None
+left_by (Answered (says.Stopped newest p)) = None
+left_by (Answered (says.Demoted newest p)) = None
+left_by (Answered (says.Promoted p)) = None
+left_by (Answered says.Feeding) = None
+left_by (Answered says.Holds) = None
+left_by (Answered says.Told) = None
+left_by (Answered says.NotTold) = None
+left_by (Answered (says.NotCaughtUp missing)) = None
+left_by (Answered (says.NotStanding newest)) = None
+
+abbrev pub entry_of : Alias → Option Left → List NotJoined
+entry_of a None = []
+entry_of a (Some left) = record { alias = a; left = left } ∷ []
+
+abbrev pub entry_by : Alias → Option Outcome → List NotJoined
+entry_by a None = []
+entry_by a (Some o) = entry_of a (left_by o)
+
+-- who did not join, by a call
+abbrev pub not_joined : Deed → List NotJoined
+not_joined (deeds.Asked x) = entry_by x.alias x.outcome
+not_joined _ = []
+
+-- the tablet was recorded
+abbrev pub records_it : Alias → Deed → Bool
+records_it a (deeds.Recorded b (Ok x)) = alias_eq b a
+records_it a _ = false
+
+-- after one of these the tablet was recorded, exactly these did not join
+abbrev pub leaves_out : Alias → List NotJoined → List Deed → Bool
+leaves_out a left [] = false
+leaves_out a left (d ∷ later) = (records_it a d && not_joined_eq left (flat_map not_joined (calls_of kinds.SetSource later))) || leaves_out a left later
+
+-- The tablet's promotion, in the term that the command took, was answered so and counts as committed, the command recorded it, and exactly these
+-- did not join.
+abbrev pub is_promoted : CommandState → List Deed → Alias → ℕ → List NotJoined → Bool
+is_promoted s span a t left =
+    is_some_of s.term t && any_said_in t kinds.Promote a is_promoted_answer span && any_said_in t kinds.WaitTold a is_told_answer span && leaves_out a left span
+
+-- ---- of a write and of a look at the shard
+
+abbrev pub wrote_this : Option Wrote → Gtid → Alias → ℕ → Bool
+wrote_this None g a t = false
+wrote_this (Some x) g a t = gtid_eq x.gtid g && alias_eq x.alias a && (x.term == t)
+
+abbrev pub is_told_act : Act → Bool
+is_told_act (acts.Told committed) = committed
+is_told_act _ = false
+
+abbrev pub says_not_primary : Alias → Standing → Act → Bool
+says_not_primary a at (acts.Wrote b (Err stand)) = alias_eq b a && standing_eq stand at
+says_not_primary a at _ = false
+
+abbrev pub showed : Option Shown → Standing → Position → Bool
+showed None at p = false
+showed (Some x) at p = standing_eq (standing_of x.stand) at && position_eq x.position p
+
+abbrev pub declared_type : TabletType → ShownType
+declared_type types.Replica = shown_types.Replica
+declared_type types.Rdonly = shown_types.Rdonly
+declared_type types.Spare = shown_types.Spare
+
+abbrev pub is_recorded_as : Alias → Option Record → Bool
+is_recorded_as a None = false
+is_recorded_as a (Some x) = alias_eq x.alias a
+
+-- the primary by the record, or else by the marks, or else by the declared type
+abbrev pub shown_type : Seen → Tablet → ShownType
+shown_type seen t =
+    if is_recorded_as t.alias seen.recorded then shown_types.Primary
+    else if is_among seen.drained t.alias then shown_types.Drained
+    else declared_type t.kind
+
+abbrev pub row_of : Seen → Tablet → TabletRow
+row_of seen t = record { alias = t.alias; server = t.server; kind = shown_type seen t }
 
 -- ---- the causes
-
--- the command was given this tablet
-abbrev pub is_given : Option Alias → Alias → Bool
-is_given None a = false
-is_given (Some b) a = alias_eq b a
-
--- Of the refusals of a PlannedReparentShard to this tablet. Those that are false come with the whole course.
-abbrev pub has_refusal_cause : Config → Option Alias → List Act → List Sending → Refusal → Bool
-has_refusal_cause config given done sent (refusals.LockTaken t by) = list_any (says_taken t by) done
-has_refusal_cause config given done sent (refusals.LockLost t) = list_any (says_lost t) done
-has_refusal_cause config given done sent (refusals.NoSuchTablet a) = is_given given a && not (is_declared config.tablets a)
-has_refusal_cause config given done sent (refusals.NotEligible a bars.MustNot) =
-    is_given given a && is_declared config.tablets a && not (is_eligible_alias config a)
-has_refusal_cause config given done sent (refusals.NotEligible a bars.Drained) = false
-has_refusal_cause config given done sent (refusals.NotEligible a bars.Ignored) = false
-has_refusal_cause config given done sent (refusals.ExpectedPrimary recorded) = false
-has_refusal_cause config given done sent refusals.BothGiven = false
-has_refusal_cause config given done sent (refusals.ReparentPending a t) = false
-has_refusal_cause config given done sent (refusals.Unreachable a why) = came_to is_needed a (is_given_up why) sent
-has_refusal_cause config given done sent (refusals.NoCandidate reasons) = false
-has_refusal_cause config given done sent (refusals.NotCaughtUp a missing since now) =
-    list_any (λ s. is_promote s.call && alias_eq s.to a && is_short_of missing s.outcome && (s.sent == since) && is_some_of s.arrived now) sent
-has_refusal_cause config given done sent (refusals.StaleTerm a seen) = came_to is_needed a (is_stale seen) sent
-has_refusal_cause config given done sent (refusals.NotRevoked a unreached) = false
-has_refusal_cause config given done sent (refusals.CannotEstablish a have need) = false
-has_refusal_cause config given done sent (refusals.SplitBrain a has_a b has_b) = false
-has_refusal_cause config given done sent (refusals.CrossCell a) = false
-has_refusal_cause config given done sent (refusals.NotAcknowledged a (unackeds.Kept at)) = came_to is_needed a (is_kept at) sent
-has_refusal_cause config given done sent (refusals.NotAcknowledged a (unackeds.NotTold since now)) =
-    list_any (λ s. is_wait_told s.call && alias_eq s.to a && is_not_told s.outcome && (s.sent == since) && is_some_of s.arrived now) sent
-has_refusal_cause config given done sent (refusals.Errant a extra) = false
-has_refusal_cause config given done sent (refusals.NotPromoted a newest) = false
-has_refusal_cause config given done sent (refusals.NotBuilt t) = list_any (says_intent t) done
-has_refusal_cause config given done sent refusals.OutOfMemory = true
-
--- Of a PlannedReparentShard to this tablet. Promoted is the tablet whose promotion, in the term that the command took, was answered so and counts
--- as committed, and which the command recorded.
-abbrev pub has_planned_cause : Config → World → Option Alias → CommandState → CommandAnswer → Bool
-has_planned_cause config w given s (answers.Promoted a t left) =
-    is_some_of s.term t && came_to_in t is_promote a is_promoted (sendings w.post s.acts) && came_to_in t is_wait_told a is_told_so (sendings w.post s.acts)
-    && leaves_out w.post a left s.acts
-has_planned_cause config w given s (answers.NothingToDo a) = false
-has_planned_cause config w given s (answers.Recorded t) = false
-has_planned_cause config w given s (answers.Refused refusal undone) = is_none undone && has_refusal_cause config given s.acts (sendings w.post s.acts) refusal
-has_planned_cause config w given s (answers.Committed g a t) = false
-has_planned_cause config w given s (answers.NotPrimary a at) = false
-has_planned_cause config w given s answers.NoPrimaryRecorded = false
-has_planned_cause config w given s (answers.Unknown g a t) = false
-has_planned_cause config w given s (answers.Shown a at p) = false
 
 -- want of memory needs no other cause
 abbrev pub is_want_of_memory : Refusal → Bool
@@ -263,17 +397,45 @@ is_want_of_memory _ = false
 abbrev pub has_no_other_cause : Refusal → Option Bool → Bool
 has_no_other_cause refusal undone = is_none undone && is_want_of_memory refusal
 
-abbrev pub wrote_this : Option Wrote → Gtid → Alias → ℕ → Bool
-wrote_this None g a t = false
-wrote_this (Some x) g a t = gtid_eq x.gtid g && alias_eq x.alias a && (x.term == t)
+abbrev pub has_planned_cause : Group → PlannedOptions → CommandState → List Deed → CommandAnswer → Bool
+has_planned_cause g o s span (answers.Promoted a t left) = is_promoted s span a t left
+has_planned_cause g o s span (answers.NothingToDo a) = is_idle o.avoid a && any_read (λ seen. is_last_intended a seen.intent) span
+has_planned_cause g o s span (answers.Recorded t) = false
+has_planned_cause g o s span (answers.Refused refusal undone) = has_no_other_cause refusal undone || planned_is_refused g o span refusal undone
+has_planned_cause g o s span (answers.Committed x a t) = false
+has_planned_cause g o s span (answers.NotPrimary a at) = false
+has_planned_cause g o s span answers.NoPrimaryRecorded = false
+has_planned_cause g o s span (answers.Unknown x a t) = false
+has_planned_cause g o s span (answers.Shown a at p) = false
+has_planned_cause g o s span (answers.Shard shard recorded) = false
+has_planned_cause g o s span (answers.Tablets rows) = false
 
-abbrev pub is_told_act : Act → Bool
-is_told_act acts.Told = true
-is_told_act _ = false
+abbrev pub has_emergency_cause : Group → EmergencyOptions → CommandState → List Deed → CommandAnswer → Bool
+has_emergency_cause g o s span (answers.Promoted a t left) = is_promoted s span a t left
+has_emergency_cause g o s span (answers.NothingToDo a) = false
+has_emergency_cause g o s span (answers.Recorded t) = false
+has_emergency_cause g o s span (answers.Refused refusal undone) = is_none undone && (is_want_of_memory refusal || emergency_is_refused g o span refusal)
+has_emergency_cause g o s span (answers.Committed x a t) = false
+has_emergency_cause g o s span (answers.NotPrimary a at) = false
+has_emergency_cause g o s span answers.NoPrimaryRecorded = false
+has_emergency_cause g o s span (answers.Unknown x a t) = false
+has_emergency_cause g o s span (answers.Shown a at p) = false
+has_emergency_cause g o s span (answers.Shard shard recorded) = false
+has_emergency_cause g o s span (answers.Tablets rows) = false
 
-abbrev pub says_not_primary : Alias → Standing → Act → Bool
-says_not_primary a at (acts.NotPrimary b stand) = alias_eq b a && standing_eq stand at
-says_not_primary a at _ = false
+abbrev pub has_external_cause : Group → Alias → List Deed → CommandAnswer → Bool
+has_external_cause g a span (answers.Promoted b t left) = false
+has_external_cause g a span (answers.NothingToDo b) = false
+has_external_cause g a span (answers.Recorded t) =
+    any_read (λ seen. any_answer kinds.Status a (stands_promoted a seen.intent t) span) span && list_any (records_it a) span
+has_external_cause g a span (answers.Refused refusal undone) = is_none undone && (is_want_of_memory refusal || external_is_refused g a span refusal)
+has_external_cause g a span (answers.Committed x b t) = false
+has_external_cause g a span (answers.NotPrimary b at) = false
+has_external_cause g a span answers.NoPrimaryRecorded = false
+has_external_cause g a span (answers.Unknown x b t) = false
+has_external_cause g a span (answers.Shown b at p) = false
+has_external_cause g a span (answers.Shard shard recorded) = false
+has_external_cause g a span (answers.Tablets rows) = false
 
 -- Of a write. What it wrote is committed once that was told; where it never was, and the tablet is no longer the primary of that term, nobody knows.
 abbrev pub has_write_cause : World → Option Alias → CommandState → CommandAnswer → Bool
@@ -287,10 +449,8 @@ has_write_cause w to s (answers.NothingToDo a) = false
 has_write_cause w to s (answers.Recorded t) = false
 has_write_cause w to s (answers.Refused refusal undone) = has_no_other_cause refusal undone
 has_write_cause w to s (answers.Shown a at p) = false
-
-abbrev pub showed : Option Shown → Standing → Position → Bool
-showed None at p = false
-showed (Some x) at p = standing_eq (standing_of x.stand) at && position_eq x.position p
+has_write_cause w to s (answers.Shard shard recorded) = false
+has_write_cause w to s (answers.Tablets rows) = false
 
 -- of a show of this tablet
 abbrev pub has_show_cause : Alias → CommandState → CommandAnswer → Bool
@@ -303,17 +463,31 @@ has_show_cause shown s (answers.Committed g a t) = false
 has_show_cause shown s (answers.NotPrimary a at) = false
 has_show_cause shown s answers.NoPrimaryRecorded = false
 has_show_cause shown s (answers.Unknown g a t) = false
+has_show_cause shown s (answers.Shard shard recorded) = false
+has_show_cause shown s (answers.Tablets rows) = false
 
--- of a TabletExternallyReparented, which has no course yet: want of memory alone
-abbrev pub has_external_cause : CommandAnswer → Bool
-has_external_cause (answers.Refused refusal undone) = has_no_other_cause refusal undone
-has_external_cause _ = false
+-- of a GetShard
+abbrev pub has_shard_cause : ShardName → CommandState → CommandAnswer → Bool
+has_shard_cause shard s (answers.Shard other recorded) = shard_name_eq other shard && record_or_none_eq recorded s.opening.seen.recorded
+has_shard_cause shard s (answers.Refused refusal undone) = has_no_other_cause refusal undone
+has_shard_cause shard s _ = false
+
+-- of a GetTablets
+abbrev pub has_tablets_cause : Group → CommandState → CommandAnswer → Bool
+has_tablets_cause g s (answers.Tablets rows) = rows_eq rows (map (row_of s.opening.seen) g.tablets)
+has_tablets_cause g s (answers.Refused refusal undone) = has_no_other_cause refusal undone
+has_tablets_cause g s _ = false
 
 abbrev pub has_command_cause : Config → World → CommandState → Command → CommandAnswer → Bool
-has_command_cause config w s (commands.Planned shard given avoid expected timeout allow_cross_cell) answer = has_planned_cause config w given s answer
-has_command_cause config w s (commands.External a) answer = has_external_cause answer
+has_command_cause config w s (commands.Planned shard new_primary avoid expected timeout crossing) answer =
+    has_planned_cause (group_of config) (planned_with new_primary avoid expected timeout crossing) s (span_in w.post s) answer
+has_command_cause config w s (commands.Emergency shard new_primary ignored expected timeout preventing) answer =
+    has_emergency_cause (group_of config) (emergency_with new_primary ignored expected timeout preventing) s (span_in w.post s) answer
+has_command_cause config w s (commands.External a) answer = has_external_cause (group_of config) a (span_in w.post s) answer
 has_command_cause config w s (commands.Write to) answer = has_write_cause w to s answer
 has_command_cause config w s (commands.Show a) answer = has_show_cause a s answer
+has_command_cause config w s (commands.GetShard shard) answer = has_shard_cause shard s answer
+has_command_cause config w s (commands.GetTablets shard) answer = has_tablets_cause (group_of config) s answer
 
 -- the open command may end with this answer
 abbrev pub has_cause : Config → World → Option CommandState → CommandAnswer → Bool

@@ -20,7 +20,7 @@ use Rattle.shard_calls.specs.declared.state.CommandState.{CommandState}
 use Rattle.shard_calls.specs.declared.why.Why.{Why}
 use Rattle.shard_calls.specs.Tablets.{TabletState, Verdict, after_call, answer_to, accepts, after_ack}
 use Rattle.shard_calls.specs.World.{Config, World, on_tablet, on_command, on_message, with_act, sends, next_message, arrives, settles, term_of}
-use Rattle.shard_calls.specs.Evidence.{has_evidence}
+use Rattle.shard_calls.specs.Grounds.{has_evidence}
 use Rattle.shard_calls.specs.Locks.{by_term}
 
 -- ---- Send: a call, which has to have its grounds

@@ -1,7 +1,7 @@
 -- What must stand before a tablet is asked to become the primary of a term: that the term intends it, and a ground on which what it has to hold
 -- is known: that no earlier term intended anything, that the last intended tablet gave up its place, or that a set of tablets stopped that meets
 -- whatever could still be told. After Sougoumarane's "Consensus algorithms at scale".
-use Rattle.std.specs.Prelude.{ℕ, Bool, true, false, not, ◌&&◌, ◌||◌, ◌==◌, nat_lt, List, filter, filter_map, Option, Some, None, is_some}
+use Rattle.std.specs.Prelude.{ℕ, Bool, true, false, not, ◌&&◌, ◌||◌, ◌==◌, nat_lt, List, [], filter, filter_map, Option, Some, None, is_some}
 use Rattle.std.specs.List.{find, list_all}
 use Rattle.shard_base.specs.Options.{◌>>=◌}
 use Rattle.shard_names.specs.declared.alias.Alias.{Alias}
@@ -18,9 +18,15 @@ use Rattle.shard_calls.specs.declared.answer.Answer.{Answer}
 use Rattle.shard_calls.specs.declared.answer.Answer.TheVariants as answers
 use Rattle.shard_calls.specs.declared.call.Call.{Call}
 use Rattle.shard_calls.specs.declared.call.Call.TheVariants as calls
-use Rattle.shard_calls.specs.Outcomes.{Outcome, Answered, GivenUp, Sending}
+use Rattle.shard_calls.specs.declared.span.Outcome.{Outcome}
+use Rattle.shard_calls.specs.declared.span.Outcome.TheVariants.{Answered, GivenUp}
+use Rattle.shard_calls.specs.declared.state.CommandState.{CommandState}
+use Rattle.shard_calls.specs.Outcomes.{Sending, sendings}
+use Rattle.shard_calls.specs.World.{Config, World, numbered}
+use Rattle.durability.specs.Policies.{rules_of}
 use Rattle.shard_calls.specs.Evidence.{intends, is_first}
-use Rattle.gtid_sets.specs.Winner.{Held, winner}
+use Rattle.gtid_sets.specs.declared.held.Held.{Held}
+use Rattle.gtid_sets.specs.Winner.{winner}
 
 -- ---- the outcome of a command's first Stop and of its first Demote
 
@@ -144,3 +150,15 @@ may_lead rules (Some t) = is_eligible rules t
 -- who made these calls in term u may ask tablet a to become the primary, if it covers this position
 abbrev pub grounded : Rules → List Tablet → Topology → List Sending → ℕ → Alias → Position → Bool
 grounded rules tablets topo calls u a p = may_lead rules (tablet_of tablets a) && intends topo u a && has_any_ground rules tablets topo calls u p
+
+-- what command c has called
+abbrev pub calls_at : World → Option CommandState → List Sending
+calls_at w None = []
+calls_at w (Some s) = sendings w.post s.acts
+
+abbrev pub calls_of : World → ℕ → List Sending
+calls_of w c = calls_at w (numbered w.commands c)
+
+-- command c of term u may ask tablet a to become the primary, if it covers this position
+abbrev pub has_evidence : Config → World → ℕ → ℕ → Alias → Position → Bool
+has_evidence config w c u a p = grounded (rules_of config.policy) config.tablets w.topo (calls_of w c) u a p

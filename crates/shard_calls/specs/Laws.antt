@@ -11,7 +11,7 @@ use Rattle.shard_calls.specs.declared.answer.Answer.{Answer}
 use Rattle.shard_calls.specs.declared.answer.Answer.TheVariants as answer
 use Rattle.shard_calls.specs.declared.stand.Stand.{Stand}
 use Rattle.shard_calls.specs.declared.stand.Stand.TheVariants as stand
-use Rattle.shard_calls.specs.Groups.{Group}
+use Rattle.shard_calls.specs.declared.group.Group.{Group}
 use Rattle.gtid_sets.specs.Logs.{newest_row, has_row, row_or_zero}
 use Rattle.shard_calls.specs.Tablets.{TabletState, opened, verdict, only_says, after_call, answer_to, accepts, after_ack, writes, writes_local, after_crash, restarts}
 use Rattle.shard_calls.specs.Moves.{TabletMove, TabletMoves}

@@ -1,12 +1,19 @@
+pub mod Kinds
+pub mod Commands
 pub mod Stands
-pub mod Groups
 pub mod Tablets
 pub mod Moves
 pub mod Laws
 pub mod World
 pub mod Messages
 pub mod Outcomes
+pub mod Spans
+pub mod Refusals
+pub mod Choosing
+pub mod Rescuing
 pub mod Evidence
+pub mod Grounds
+pub mod Same
 pub mod Causes
 pub mod Begins
 pub mod Locks
@@ -16,4 +23,3 @@ pub mod Table
 pub mod Promotions
 pub mod RunLaws
 pub mod Answered
-pub mod Grounds

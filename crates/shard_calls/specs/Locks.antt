@@ -25,9 +25,12 @@ abbrev pub taken_reply : Result ℕ LockTaken → Reply
 taken_reply (Ok t) = replies.Term t
 taken_reply (Err held) = replies.Taken held.term held.actor
 
+abbrev pub term_after : Result ℕ LockTaken → Option ℕ → Option ℕ
+term_after (Ok t) term = Some t
+term_after (Err held) term = term
+
 abbrev pub with_taken : Result ℕ LockTaken → CommandState → CommandState
-with_taken (Ok t) s = record s { term = Some t }
-with_taken (Err held) s = with_act (acts.Taken held.term held.actor) s
+with_taken taken s = with_act (acts.Took taken) (record s { term = term_after taken s.term })
 
 abbrev pub takes_by : World → ℕ → Option CommandState → World
 takes_by w c None = w
@@ -51,7 +54,7 @@ abbrev pub read_reply : Topology → ℕ → Reply
 read_reply topo t = if is_held_in topo t then replies.Read (seen_of topo) else replies.Lost topo.term
 
 abbrev pub read_act : Topology → ℕ → Act
-read_act topo t = if is_held_in topo t then acts.Read (seen_of topo) else acts.Lost topo.term
+read_act topo t = if is_held_in topo t then acts.Read (Ok (seen_of topo)) else acts.Read (Err topo.term)
 
 abbrev pub reads : World → ℕ → ℕ → World
 reads w c t = on_command w c (with_act (read_act w.topo t))
@@ -61,22 +64,33 @@ topo_reply (Ok u) = replies.Ok
 topo_reply (Err (faults.LockLost current)) = replies.Lost current
 topo_reply (Err (faults.IntentStands a)) = replies.Stands a
 
-abbrev pub with_intended : Result (Unit {0}) TopoFault → CommandState → CommandState
-with_intended (Ok u) s = s
-with_intended (Err (faults.LockLost current)) s = with_act (acts.Lost current) s
-with_intended (Err (faults.IntentStands a)) s = s
+-- what it keeps of the answer to its Intend, where its term intends no other tablet
+abbrev pub intended_act : Alias → Result (Unit {0}) TopoFault → Option Act
+intended_act a (Ok u) = Some (acts.Intended a (Ok tt))
+intended_act a (Err (faults.LockLost current)) = Some (acts.Intended a (Err current))
+intended_act a (Err (faults.IntentStands b)) = None
+
+abbrev pub with_act_if : Option Act → CommandState → CommandState
+with_act_if None s = s
+with_act_if (Some act) s = with_act act s
+
+abbrev pub with_intended : Alias → Result (Unit {0}) TopoFault → CommandState → CommandState
+with_intended a answer = with_act_if (intended_act a answer)
 
 abbrev pub intends_in : World → ℕ → Alias → ℕ → World
-intends_in w c a t = on_command (on_topo w (after_intend w.topo t a)) c (with_intended (answer_intend w.topo t a))
+intends_in w c a t = on_command (on_topo w (after_intend w.topo t a)) c (with_intended a (answer_intend w.topo t a))
 
 -- where the lock is held in the term, the last intent names the tablet
 abbrev pub may_record : Topology → Alias → ℕ → Bool
 may_record topo a t = not (is_held_in topo t) || is_alias_of (last_intent topo) a
 
+abbrev pub recorded_act : Alias → Result (Unit {0}) TopoFault → Option Act
+recorded_act a (Ok u) = Some (acts.Recorded a (Ok tt))
+recorded_act a (Err (faults.LockLost current)) = Some (acts.Recorded a (Err current))
+recorded_act a (Err (faults.IntentStands b)) = None
+
 abbrev pub with_recorded : Alias → Result (Unit {0}) TopoFault → CommandState → CommandState
-with_recorded a (Ok u) s = with_act (acts.Recorded a) s
-with_recorded a (Err (faults.LockLost current)) s = with_act (acts.Lost current) s
-with_recorded a (Err (faults.IntentStands b)) s = s
+with_recorded a answer = with_act_if (recorded_act a answer)
 
 abbrev pub records_in : World → ℕ → Alias → ℕ → World
 records_in w c a t = on_command (on_topo w (after_record w.topo t w.clock)) c (with_recorded a (answer_record w.topo t))

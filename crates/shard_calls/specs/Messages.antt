@@ -1,7 +1,7 @@
 -- Messages: which of them come to their receivers, when a command may give up a call, and what a source may offer to a replica. Links, lost
 -- and repeated messages are as in Sougoumarane's "Consensus algorithms at scale"; a source sends its binary log to its replicas from the
 -- place on that each has come to (MySQL 8.0 manual, "Replication").
-use Rattle.std.specs.Prelude.{ℕ, ◌+◌, ◌-◌, Bool, true, false, not, ◌&&◌, ◌||◌, ◌==◌, nat_lt, nat_le, List, [], ◌∷◌, ◌++◌, filter, drop, Option, Some, None, is_none, is_some, unwrap_or, if◌then◌else◌}
+use Rattle.std.specs.Prelude.{ℕ, ◌+◌, ◌-◌, Bool, true, false, not, ◌&&◌, ◌||◌, ◌==◌, nat_lt, nat_le, List, [], ◌∷◌, ◌++◌, filter, drop, Option, Some, None, is_none, is_some, if◌then◌else◌}
 use Rattle.std.specs.List.{list_any, list_all}
 use Rattle.shard_base.specs.Options.{◌>>=◌, only_if}
 use Rattle.shard_names.specs.declared.alias.Alias.{Alias}
@@ -11,7 +11,6 @@ use Rattle.gtid_sets.specs.Position.{covers}
 use Rattle.shard_calls.specs.declared.call.Call.{Call}
 use Rattle.shard_calls.specs.declared.call.Call.TheVariants as calls
 use Rattle.shard_calls.specs.declared.command.Command.{Command}
-use Rattle.shard_calls.specs.declared.command.Command.TheVariants as commands
 use Rattle.shard_calls.specs.declared.event.Link.{Link}
 use Rattle.shard_calls.specs.declared.event.Side.{Side}
 use Rattle.shard_calls.specs.declared.event.Side.TheVariants as sides
@@ -23,6 +22,7 @@ use Rattle.shard_calls.specs.declared.stand.Stand.TheVariants as stands
 use Rattle.shard_calls.specs.declared.state.CommandState.{CommandState}
 use Rattle.shard_calls.specs.declared.why.Why.{Why}
 use Rattle.shard_calls.specs.declared.why.Why.TheVariants as whys
+use Rattle.shard_calls.specs.Commands.{timeout_of}
 use Rattle.shard_calls.specs.Stands.{is_down, is_feeder, is_primary_of}
 use Rattle.gtid_sets.specs.Logs.{holds, newest_row, place_of_row, position_of}
 use Rattle.shard_calls.specs.Tablets.{TabletState, is_told, is_row_told}
@@ -121,13 +121,6 @@ is_unanswered w k = list_all (λ m. is_none m.arrived && not (may_arrive w m)) (
 -- it was lost, or it came to its tablet and all its answers were lost
 abbrev pub is_call_lost : World → ℕ → Message → Bool
 is_call_lost w k m = m.lost || (is_some m.arrived && list_all (λ n. n.lost) (answers_to w k))
-
--- the milliseconds that a command waits for an answer: by its option, or else 15 seconds
-abbrev pub timeout_of : Command → ℕ
-timeout_of (commands.Planned shard new_primary avoid expected timeout allow_cross_cell) = unwrap_or timeout 15000
-timeout_of (commands.External a) = 15000
-timeout_of (commands.Write to) = 15000
-timeout_of (commands.Show a) = 15000
 
 -- a call with a moment of its own has no other limit
 abbrev pub may_time_out : Call → Bool

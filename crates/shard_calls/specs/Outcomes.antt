@@ -12,12 +12,9 @@ use Rattle.shard_calls.specs.declared.post.Settled.{Settled}
 use Rattle.shard_calls.specs.declared.post.Settled.TheVariants as settleds
 use Rattle.shard_calls.specs.declared.state.Act.{Act}
 use Rattle.shard_calls.specs.declared.state.Act.TheVariants as acts
-use Rattle.shard_calls.specs.declared.why.Why.{Why}
+use Rattle.shard_calls.specs.declared.span.Outcome.{Outcome}
+use Rattle.shard_calls.specs.declared.span.Outcome.TheVariants as outcomes
 use Rattle.shard_calls.specs.World.{numbered}
-
-pub data Outcome : Type 0 where
-  Answered : Answer → Outcome
-  GivenUp : Why → Outcome
 
 abbrev pub answer_in : Content → Option Answer
 answer_in (contents.Asks command term to call) = None
@@ -26,8 +23,8 @@ answer_in (contents.Feeds from to term after index e) = None
 answer_in (contents.Acks from to term index) = None
 
 abbrev pub outcome_by : List Message → Settled → Option Outcome
-outcome_by post (settleds.Answered k) = numbered post k >>= (λ m. answer_in m.content >>= (λ x. Some (Answered x)))
-outcome_by post (settleds.GaveUp why) = Some (GivenUp why)
+outcome_by post (settleds.Answered k) = numbered post k >>= (λ m. answer_in m.content >>= (λ x. Some (outcomes.Answered x)))
+outcome_by post (settleds.GaveUp why) = Some (outcomes.GivenUp why)
 
 -- what a call came to, if it is settled
 abbrev pub outcome_of : List Message → Message → Option Outcome
@@ -50,14 +47,13 @@ sending_by post m (contents.Feeds from to term after index e) = None
 sending_by post m (contents.Acks from to term index) = None
 
 abbrev pub sending_of : List Message → Act → Option Sending
-sending_of post (acts.Taken term by) = None
-sending_of post (acts.Lost term) = None
-sending_of post (acts.Read seen) = None
-sending_of post (acts.Recorded a) = None
+sending_of post (acts.Took reply) = None
+sending_of post (acts.Read reply) = None
+sending_of post (acts.Intended a reply) = None
+sending_of post (acts.Recorded a reply) = None
 sending_of post (acts.Sent k) = numbered post k >>= (λ m. sending_by post m m.content)
-sending_of post (acts.NotPrimary a at) = None
-sending_of post acts.Told = None
-sending_of post acts.Gone = None
+sending_of post (acts.Wrote a reply) = None
+sending_of post (acts.Told committed) = None
 
 -- the calls among these acts, in order
 abbrev pub sendings : List Message → List Act → List Sending

@@ -95,6 +95,8 @@ told_at (answers.NotPrimary a at) = None
 told_at answers.NoPrimaryRecorded = None
 told_at (answers.Unknown g a term) = None
 told_at (answers.Shown a at p) = None
+told_at (answers.Shard shard recorded) = None
+told_at (answers.Tablets rows) = None
 
 -- the entry that an answer tells: of a write its transaction, of a reparent the row of its term
 abbrev pub IsToldBy : CommandAnswer → Entry → Type 0
@@ -107,6 +109,8 @@ IsToldBy (answers.NotPrimary a at) e = ⊥
 IsToldBy answers.NoPrimaryRecorded e = ⊥
 IsToldBy (answers.Unknown g a term) e = ⊥
 IsToldBy (answers.Shown a at p) e = ⊥
+IsToldBy (answers.Shard shard recorded) e = ⊥
+IsToldBy (answers.Tablets rows) e = ⊥
 
 -- step i ends a command with this answer
 abbrev pub EndsAt : List Step → ℕ → CommandAnswer → Type 0

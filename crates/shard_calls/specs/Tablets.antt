@@ -25,7 +25,7 @@ use Rattle.shard_calls.specs.declared.outcome.Restarted.TheVariants as restarted
 use Rattle.shard_calls.specs.declared.stand.Stand.{Stand}
 use Rattle.shard_calls.specs.declared.stand.Stand.TheVariants as stand
 use Rattle.shard_calls.specs.Stands.{is_down, is_stopped, is_primary, is_primary_of, is_replica_in, is_feeder_in, primary_term, takes_from, waits_for}
-use Rattle.shard_calls.specs.Groups.{Group}
+use Rattle.shard_calls.specs.declared.group.Group.{Group}
 use Rattle.gtid_sets.specs.Logs.{position_of, with_entry, with_own, next_gtid, has_row, place_of_row, newest_row, newest_row_names}
 
 pub record TabletState : Type 0 where

@@ -1,6 +1,6 @@
 -- Writes: at a primary, at a tablet itself, and what a command is told of its own. After semisynchronous replication (MySQL 8.0 manual), where a
 -- client is told once its entry counts as committed.
-use Rattle.std.specs.Prelude.{ℕ, ◌+◌, Bool, true, false, ◌&&◌, Option, Some, None, is_none, length, unwrap_or, if◌then◌else◌}
+use Rattle.std.specs.Prelude.{ℕ, ◌+◌, Bool, true, false, ◌&&◌, Option, Some, None, Ok, Err, is_none, length, unwrap_or, if◌then◌else◌}
 use Rattle.shard_base.specs.Options.{◌>>=◌, only_if}
 use Rattle.shard_names.specs.declared.alias.Alias.{Alias}
 use Rattle.shard_names.specs.declared.tablet.Tablet.{Tablet}
@@ -24,9 +24,12 @@ use Rattle.shard_calls.specs.Deliveries.{by_tablet}
 
 abbrev pub is_write : Command → Bool
 is_write (commands.Planned shard new_primary avoid expected timeout allow_cross_cell) = false
+is_write (commands.Emergency shard new_primary ignored expected timeout prevent_cross_cell) = false
 is_write (commands.External a) = false
 is_write (commands.Write to) = true
 is_write (commands.Show a) = false
+is_write (commands.GetShard shard) = false
+is_write (commands.GetTablets shard) = false
 
 -- it has written nothing
 abbrev pub may_write : Option CommandState → Bool
@@ -39,8 +42,9 @@ write_verdict w a s me = writes me s.client s.number (w.tablets a)
 
 abbrev pub with_written : Alias → TabletState → Written → CommandState → CommandState
 with_written a old (writtens.Entry g) s =
-    record s { wrote = Some (record { gtid = g; alias = a; term = unwrap_or (primary_term old.stand) 0; index = length old.log + 1 }) }
-with_written a old (writtens.NotPrimary at) s = with_act (acts.NotPrimary a (standing_of at)) s
+    with_act (acts.Wrote a (Ok g))
+    (record s { wrote = Some (record { gtid = g; alias = a; term = unwrap_or (primary_term old.stand) 0; index = length old.log + 1 }) })
+with_written a old (writtens.NotPrimary at) s = with_act (acts.Wrote a (Err (standing_of at))) s
 
 abbrev pub writes_at : World → ℕ → Alias → CommandState → Tablet → World
 writes_at w c a s me = on_command (on_tablet w a (write_verdict w a s me).state) c (with_written a (w.tablets a) (write_verdict w a s me).says)
@@ -67,8 +71,8 @@ tell_of w c = numbered w.commands c >>= (λ s. s.wrote >>= (λ x. tell_reply w x
 
 -- what the command keeps of such a reply
 abbrev pub told_act : Reply → Option Act
-told_act replies.Told = Some acts.Told
-told_act replies.Gone = Some acts.Gone
+told_act replies.Told = Some (acts.Told true)
+told_act replies.Gone = Some (acts.Told false)
 told_act _ = None
 
 abbrev pub with_told : World → ℕ → Option Act → World

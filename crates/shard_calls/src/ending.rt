@@ -3,7 +3,9 @@
 use crate::{Refusal, Standing, Why};
 use gtid_sets::{Gtid, GtidSet};
 use shard_base::Items;
-use shard_names::Alias;
+use shard_names::{Alias, ShardName};
+use topo_lock::Record;
+use uuid::Uuid;
 
 /// Why a tablet did not join a new primary.
 #[derive(Drop)]
@@ -23,6 +25,24 @@ pub enum Left {
 pub struct NotJoined {
     pub alias: Alias,
     pub left: Left,
+}
+
+/// What a tablet is shown as: by what was recorded and marked, or else by its declared type.
+#[derive(Clone, Copy, Debug, PartialEq, Eq)]
+pub enum ShownType {
+    Primary,
+    Drained,
+    Replica,
+    Rdonly,
+    Spare,
+}
+
+/// A tablet as `GetTablets` shows it.
+#[derive(Clone, Copy)]
+pub struct TabletRow {
+    pub alias: Alias,
+    pub server: Uuid,
+    pub kind: ShownType,
 }
 
 /// How a command ended.
@@ -72,5 +92,14 @@ pub enum CommandAnswer {
         alias: Alias,
         stand: Standing,
         position: GtidSet,
+    },
+    /// This was recorded of the shard's primary right after the command began.
+    Shard {
+        shard: ShardName,
+        recorded: Option<Record>,
+    },
+    /// The shard's tablets were these right after the command began.
+    Tablets {
+        rows: Items<TabletRow>,
     },
 }

@@ -7,21 +7,24 @@ mod call;
 mod command;
 mod ending;
 mod event;
+mod group;
 mod halt;
 mod laws;
 mod outcome;
 mod post;
 mod refusal;
 mod run_laws;
+mod span;
 mod stand;
 mod state;
 mod why;
 
 pub use answer::Answer;
 pub use call::Call;
-pub use command::Command;
-pub use ending::{CommandAnswer, Left, NotJoined};
+pub use command::{Command, EmergencyOptions, PlannedOptions};
+pub use ending::{CommandAnswer, Left, NotJoined, ShownType, TabletRow};
 pub use event::{Event, History, Link, Note, Reply, Seen, Side, Step};
+pub use group::Group;
 pub use halt::Halt;
 pub use laws::{
     log_only_grows, promise_never_falls, refusal_changes_seen_alone, rows_are_promised,
@@ -36,6 +39,7 @@ pub use run_laws::{
     one_promotion_in_a_term, tablets_stay_sound, term_of_topology_never_falls, told_is_accepted,
     told_is_kept,
 };
+pub use span::{Asked, Deed, Kind, Outcome, Transaction};
 pub use stand::{Stand, Standing};
 pub use state::{Act, ActorState, CommandState, Opening, Shown, Wrote};
 pub use why::Why;

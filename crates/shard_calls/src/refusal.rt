@@ -159,10 +159,6 @@ pub enum Refusal {
         alias: Alias,
         newest: u64,
     },
-    /// There is an intent of this term already, and a reparent away from it is not built.
-    NotBuilt {
-        term: u64,
-    },
     /// Memory ran out while the command went on.
     OutOfMemory,
 }

@@ -2,6 +2,7 @@ use crate::{Command, Seen, Stand, Standing};
 use gtid_sets::{Gtid, GtidSet};
 use shard_base::Items;
 use shard_names::{Alias, Name};
+use topo_lock::LockTaken;
 
 /// Who gives commands: the pending one by its number, and how many writes it has begun.
 #[derive(Clone, Copy)]
@@ -11,25 +12,40 @@ pub struct ActorState {
     pub writes: u64,
 }
 
-/// What the answers of a command may rest on, besides what it wrote and the term that it took.
+/// What a command did, in order, with what it was replied. Where the lock was lost, the reply is the topology's term.
 #[derive(Drop)]
 pub enum Act {
-    /// Its Take found the lock held in this term, by a command of this actor.
-    Taken { term: u64, actor: Name },
-    /// It found the lock lost, and the topology at this term.
-    Lost { term: u64 },
+    /// It took the lock in this term, or found it held.
+    Took {
+        reply: Result<u64, LockTaken>,
+    },
     /// It read this of the topology.
-    Read { seen: Seen },
+    Read {
+        reply: Result<Seen, u64>,
+    },
+    /// It said that it is to promote the tablet.
+    Intended {
+        alias: Alias,
+        reply: Result<(), u64>,
+    },
     /// It recorded the tablet.
-    Recorded { alias: Alias },
+    Recorded {
+        alias: Alias,
+        reply: Result<(), u64>,
+    },
     /// It sent the call with this number.
-    Sent { message: u64 },
-    /// Its Write found the tablet standing so.
-    NotPrimary { alias: Alias, stand: Standing },
-    /// Its Tell was answered that the entry counts as committed.
-    Told,
-    /// Its Tell was answered that the tablet is no longer the primary of the term in which it wrote the entry.
-    Gone,
+    Sent {
+        message: u64,
+    },
+    /// The tablet was to write its entry: it did, or it does not take it, since it stands so.
+    Wrote {
+        alias: Alias,
+        reply: Result<Gtid, Standing>,
+    },
+    /// Its entry counts as committed, or the tablet is no longer the primary of the term in which it wrote it.
+    Told {
+        committed: bool,
+    },
 }
 
 /// What a command wrote, where and in which term, and its index in the tablet's log.

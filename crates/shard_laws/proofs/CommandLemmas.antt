@@ -88,10 +88,10 @@ by_change : (config : Config) (w : World) (e : Event) (f : ℕ → World) (o : O
 by_change config w e f None h = Same
 by_change config w e f (Some t) h = h t
 
-intended_keeps : (r : Result (Unit {0}) TopoFault) (x : CommandState) → Keeps x (with_intended r x)
-intended_keeps (Ok u) x = (refl, refl, refl, refl)
-intended_keeps (Err (faults.LockLost current)) x = (refl, refl, refl, refl)
-intended_keeps (Err (faults.IntentStands b)) x = (refl, refl, refl, refl)
+intended_keeps : (a : Alias) (r : Result (Unit {0}) TopoFault) (x : CommandState) → Keeps x (with_intended a r x)
+intended_keeps a (Ok u) x = (refl, refl, refl, refl)
+intended_keeps a (Err (faults.LockLost current)) x = (refl, refl, refl, refl)
+intended_keeps a (Err (faults.IntentStands b)) x = (refl, refl, refl, refl)
 
 recorded_keeps : (a : Alias) (r : Result (Unit {0}) TopoFault) (x : CommandState) → Keeps x (with_recorded a r x)
 recorded_keeps a (Ok u) x = (refl, refl, refl, refl)
@@ -166,7 +166,7 @@ change_of config w (events.Begin name command) met = Begins name command refl
 change_of config w (events.Take d) met = take_change config w d (open_command w d)
 change_of config w (events.Read d) met = by_change config w _ (reads w d) (term_of w d) (λ t. act_change config w (events.Read d) d _)
 change_of config w (events.Intend d a) met =
-    by_change config w _ (intends_in w d a) (term_of w d) (λ t. changes config w (events.Intend d a) d _ (intended_keeps (answer_intend w.topo t a)))
+    by_change config w _ (intends_in w d a) (term_of w d) (λ t. changes config w (events.Intend d a) d _ (intended_keeps a (answer_intend w.topo t a)))
 change_of config w (events.Record d a) met =
     by_change config w _ (records_in w d a) (term_of w d) (λ t. changes config w (events.Record d a) d _ (recorded_keeps a (answer_record w.topo t)))
 change_of config w (events.Release d) met =

@@ -24,7 +24,8 @@ use Rattle.shard_calls.specs.declared.why.Why.{Why}
 use Rattle.shard_calls.specs.declared.why.Why.TheVariants as whys
 use Rattle.shard_calls.specs.Stands.{is_down}
 use Rattle.shard_calls.specs.World.{World, opening, numbered, open_command}
-use Rattle.shard_calls.specs.Messages.{side_eq, link_eq, is_cut, link_to, may_arrive, answers_call, answers_to, is_unanswered, is_call_lost, timeout_of, may_time_out, is_overdue, why_unanswered, why_by, why_given_up}
+use Rattle.shard_calls.specs.Commands.{timeout_of}
+use Rattle.shard_calls.specs.Messages.{side_eq, link_eq, is_cut, link_to, may_arrive, answers_call, answers_to, is_unanswered, is_call_lost, may_time_out, is_overdue, why_unanswered, why_by, why_given_up}
 use Rattle.shard_calls.specs.Deliveries.{why_reply}
 use Rattle.shard_calls.specs.Promotions.{world_at}
 use Rattle.shard_calls.specs.RunLaws.{OfEveryRun}
@@ -133,9 +134,13 @@ is_lost w k m (Coming moment at each) =
 patience_is : (command : Command) → patience command ≡ timeout_of command
 patience_is (commands.Planned shard new_primary avoid expected None allow_cross_cell) = refl
 patience_is (commands.Planned shard new_primary avoid expected (Some ms) allow_cross_cell) = refl
+patience_is (commands.Emergency shard new_primary ignored expected None prevent_cross_cell) = refl
+patience_is (commands.Emergency shard new_primary ignored expected (Some ms) prevent_cross_cell) = refl
 patience_is (commands.External a) = refl
 patience_is (commands.Write to) = refl
 patience_is (commands.Show a) = refl
+patience_is (commands.GetShard shard) = refl
+patience_is (commands.GetTablets shard) = refl
 
 no_limit : (call : Call) → may_time_out call ≡ true → HasOwnLimit call → ⊥
 no_limit _ h (ForPosition p until) = false≢true h

@@ -32,7 +32,8 @@ use Rattle.shard_calls.specs.Evidence.{is_first}
 use Rattle.shard_calls.specs.Grounds.{last_before, has_stopped, stopped_at, stopped_among, revokes_all}
 use Rattle.shard_calls.specs.Outcomes.{sendings}
 use Rattle.shard_calls.specs.declared.state.Act.{Act}
-use Rattle.gtid_sets.specs.Winner.{Held, newest_of, leading, covers_all, winner}
+use Rattle.gtid_sets.specs.declared.held.Held.{Held}
+use Rattle.gtid_sets.specs.Winner.{newest_of, leading, covers_all, winner}
 use Rattle.shard_laws.specs.Traces.{IsToldIn}
 use Rattle.shard_laws.specs.TightMoves.{TightMove, Stays, Sees, Stops, Demotes, Joins, Serves, Enters, Takes, Skips, Writes, WritesLocal, Hears, Promises, GoesDown, ComesUp, TabletStep, Plainly, Returning, CallFits, Sends, Asks, Answers, Acks, Feeds}
 use Rattle.shard_calls.proofs.LogLemmas.{has-position}

@@ -23,8 +23,11 @@ use Rattle.shard_calls.specs.declared.post.Settled.TheVariants as settleds
 use Rattle.shard_calls.specs.World.{Config, World, numbered}
 use Rattle.shard_calls.specs.declared.state.Act.{Act}
 use Rattle.shard_calls.specs.declared.state.Act.TheVariants as acts
-use Rattle.shard_calls.specs.Outcomes.{Outcome, Answered, GivenUp, answer_in, outcome_by, outcome_of, Sending, sending_by, sending_of, sendings}
-use Rattle.gtid_sets.specs.Winner.{Held, winner}
+use Rattle.shard_calls.specs.declared.span.Outcome.{Outcome}
+use Rattle.shard_calls.specs.declared.span.Outcome.TheVariants.{Answered, GivenUp}
+use Rattle.shard_calls.specs.Outcomes.{answer_in, outcome_by, outcome_of, Sending, sending_by, sending_of, sendings}
+use Rattle.gtid_sets.specs.declared.held.Held.{Held}
+use Rattle.gtid_sets.specs.Winner.{winner}
 use Rattle.shard_calls.specs.Evidence.{is_first, intends}
 use Rattle.shard_calls.specs.Grounds.{asks_stop, asks_demote, is_asked, first_outcome, if_stopped, if_demoted, if_answered, stopped_at, demoted_at, last_before, is_of_term, passes_held, gave_up, stopped_among, has_stopped, revokes_all, stopped_all, may_lead, has_any_ground, grounded}
 use Rattle.shard_laws.specs.TightMoves.{IsPosted}
@@ -104,15 +107,14 @@ asked_by w k m (contents.Feeds from to term after index e) x here carries h = ab
 asked_by w k m (contents.Acks from to term index) x here carries h = absurd (let none : None ≡ Some x = h in cc)
 
 pub asked_in : (w : World) (act : Act) (x : Sending) → sending_of w.post act ≡ Some x → IsAsked w x
-asked_in w (acts.Taken term by) x h = absurd (let none : None ≡ Some x = h in cc)
-asked_in w (acts.Lost term) x h = absurd (let none : None ≡ Some x = h in cc)
-asked_in w (acts.Read seen) x h = absurd (let none : None ≡ Some x = h in cc)
-asked_in w (acts.Recorded a) x h = absurd (let none : None ≡ Some x = h in cc)
+asked_in w (acts.Took reply) x h = absurd (let none : None ≡ Some x = h in cc)
+asked_in w (acts.Read reply) x h = absurd (let none : None ≡ Some x = h in cc)
+asked_in w (acts.Intended a reply) x h = absurd (let none : None ≡ Some x = h in cc)
+asked_in w (acts.Recorded a reply) x h = absurd (let none : None ≡ Some x = h in cc)
 asked_in w (acts.Sent k) x h =
     let found = bind_some (numbered w.post k) (λ m. sending_by w.post m m.content) x h in asked_by w k found.0 found.0.content x found.1 refl found.2
-asked_in w (acts.NotPrimary a at) x h = absurd (let none : None ≡ Some x = h in cc)
-asked_in w acts.Told x h = absurd (let none : None ≡ Some x = h in cc)
-asked_in w acts.Gone x h = absurd (let none : None ≡ Some x = h in cc)
+asked_in w (acts.Wrote a reply) x h = absurd (let none : None ≡ Some x = h in cc)
+asked_in w (acts.Told committed) x h = absurd (let none : None ≡ Some x = h in cc)
 
 first_heard : (rules : Rules) (config : Config) (at : ℕ → World) → Trace rules config at → (i u : ℕ) (list : List Act) (a : Alias) (test : Call → Bool) (says : Answer)
     → first_outcome (sendings (at i).post list) u a test ≡ Some (Answered says) → (j : ℕ) × (j < i) × SaysFor says u ((at j).tablets a) ((at (suc j)).tablets a)
@@ -220,7 +222,7 @@ pub or_cases : (a b : Bool) → (a || b) ≡ true → (a ≡ true) ⊎ (b ≡ tr
 or_cases true b h = inl refl
 or_cases false b h = inr h
 
-held_passes : (test : Held → Bool) (o : Option Held) → passes_held test o ≡ true → (h : Held) × (o ≡ Some h) × (test h ≡ true)
+pub held_passes : (test : Held → Bool) (o : Option Held) → passes_held test o ≡ true → (h : Held) × (o ≡ Some h) × (test h ≡ true)
 held_passes test None is = absurd (false≢true is)
 held_passes test (Some h) is = (h, refl, is)
 

@@ -20,7 +20,7 @@ use Rattle.shard_calls.specs.declared.event.Step.{Step}
 use Rattle.shard_calls.specs.declared.post.Content.{Content}
 use Rattle.shard_calls.specs.declared.post.Message.{Message}
 use Rattle.shard_calls.specs.declared.state.CommandState.{CommandState}
-use Rattle.shard_calls.specs.Groups.{Group}
+use Rattle.shard_calls.specs.declared.group.Group.{Group}
 use Rattle.shard_calls.specs.Stands.{is_primary, is_primary_of}
 use Rattle.gtid_sets.specs.Logs.{is_row_of, place_of_row}
 use Rattle.shard_calls.specs.Tablets.{TabletState, is_told}

@@ -8,6 +8,7 @@ pub mod VoteLemmas
 pub mod MovedLemmas
 pub mod LeaderLemmas
 pub mod SiteLemmas
+pub mod GroundedLemmas
 pub mod SafeLemmas
 pub mod GroundExamples
 pub mod TabletLaws
@@ -16,6 +17,7 @@ pub mod GiveUpLemmas
 pub mod LinkLemmas
 pub mod CommandLemmas
 pub mod NumberLemmas
+pub mod ReadLemmas
 pub mod EndLemmas
 pub mod RowLemmas
 pub mod ShownLemmas

@@ -176,9 +176,12 @@ begin_counts w name command other =
   where
     of_command : (k : Command) → more_if (bytes_eq name other) (writes_by k) ≡ one_begun other (events.Begin name k)
     of_command (commands.Planned shard new_primary avoid expected timeout allow_cross_cell) = no_more (bytes_eq name other)
+    of_command (commands.Emergency shard new_primary ignored expected timeout prevent_cross_cell) = no_more (bytes_eq name other)
     of_command (commands.External a) = no_more (bytes_eq name other)
     of_command (commands.Write to) = refl
     of_command (commands.Show a) = no_more (bytes_eq name other)
+    of_command (commands.GetShard shard) = no_more (bytes_eq name other)
+    of_command (commands.GetTablets shard) = no_more (bytes_eq name other)
 
 same : (w : World) (new : List ActorState) (name : List ℕ) → new ≡ w.actors → writes_of name new ≡ writes_of name w.actors + 0
 same w new name is = ap (λ (us : List ActorState). writes_of name us) is ∙ nothing_more (writes_of name w.actors)

@@ -1,5 +1,5 @@
 -- That the row of a reparent's term was told by a step: who answered that it is told was asked by a delivery, whose answer tells it.
-use Rattle.std.proofs.Common.{◌≡◌, inl, inr, ◌≤◌, ◌<◌, ℕ, zero, suc, ◌+◌, Bool, true, false, ◌&&◌, ◌==◌, refl, ap, sym, subst, ◌∙◌, arith, List, [], ◌∷◌, Option, Some, None, option_map, length}
+use Rattle.std.proofs.Common.{◌≡◌, inl, inr, ◌≤◌, ◌<◌, ℕ, zero, suc, ◌+◌, Bool, true, false, ◌==◌, refl, ap, sym, subst, ◌∙◌, arith, List, [], ◌∷◌, Option, Some, None, option_map, length}
 use Rattle.std.proofs.lemmas.Bool.{false≢true}
 use Rattle.std.proofs.lemmas.Bool.Decides.{nat_tests}
 use Rattle.std.proofs.lemmas.List.Quantifiers.{position-Some}
@@ -7,8 +7,7 @@ use Rattle.std.specs.List.{slice_get, position}
 use Rattle.shard_base.specs.Options.{◌>>=◌, only_if}
 use Rattle.shard_names.specs.declared.alias.Alias.{Alias}
 use Rattle.shard_names.specs.declared.tablet.Tablet.{Tablet}
-use Rattle.shard_names.specs.Tablets.{alias_eq, tablet_of}
-use Rattle.shard_names.proofs.TabletLemmas.{both_left, both_right, alias_eq_is}
+use Rattle.shard_names.specs.Tablets.{tablet_of}
 use Rattle.gtid_sets.specs.declared.entry.Entry.{Entry}
 use Rattle.gtid_sets.specs.declared.entry.Kind.TheVariants as kinds
 use Rattle.gtid_sets.specs.Logs.{is_row_of, place_of_row}
@@ -28,17 +27,22 @@ use Rattle.shard_calls.specs.declared.post.Content.TheVariants as contents
 use Rattle.shard_calls.specs.declared.post.Message.{Message}
 use Rattle.shard_calls.specs.declared.stand.Stand.{Stand}
 use Rattle.shard_calls.specs.declared.stand.Stand.TheVariants as stands
-use Rattle.shard_calls.specs.declared.state.Act.{Act}
-use Rattle.shard_calls.specs.Groups.{Group}
-use Rattle.shard_calls.specs.Outcomes.{Outcome, Answered, GivenUp, Sending, sending_of, sendings}
+use Rattle.shard_calls.specs.declared.group.Group.{Group}
+use Rattle.shard_calls.specs.declared.span.Outcome.{Outcome}
+use Rattle.shard_calls.specs.declared.span.Outcome.TheVariants.{Answered, GivenUp}
+use Rattle.shard_calls.specs.declared.span.Kind.TheVariants as call_kinds
+use Rattle.shard_calls.specs.Kinds.{kind_of, kind_eq}
+use Rattle.shard_calls.specs.Outcomes.{outcome_of}
+use Rattle.shard_calls.specs.Spans.{span_in}
+use Rattle.shard_calls.specs.declared.state.CommandState.{CommandState}
 use Rattle.shard_calls.specs.Tablets.{TabletState, answer_to, is_told, is_row_told}
 use Rattle.shard_calls.specs.World.{Config, World, numbered, next_message}
 use Rattle.shard_calls.specs.Messages.{needed, may_feed, feed_of, offered_by}
-use Rattle.shard_calls.specs.Causes.{is_wait_told, is_told_so, came_to_in}
+use Rattle.shard_calls.specs.Causes.{outcome_passes, is_told_answer, any_said_in}
+use Rattle.shard_calls.proofs.CauseLemmas.{WasSaid, was_said}
 use Rattle.shard_calls.specs.Deliveries.{delivery_reply, arrival_reply}
 use Rattle.shard_calls.specs.Table.{answer, IsStep, IsRun}
 use Rattle.shard_calls.specs.Promotions.{world_at, ToWait}
-use Rattle.shard_calls.proofs.ListLemmas.{one_passes}
 use Rattle.shard_calls.proofs.WorldLemmas.{IsIntended}
 use Rattle.shard_calls.proofs.PostLemmas.{Sent, Asked, Replied, Acked, Offered, PostCases, post_cases}
 use Rattle.shard_calls.proofs.SettleLemmas.{post_stays}
@@ -46,11 +50,10 @@ use Rattle.shard_calls.proofs.ToldLemmas.{IsTellingWorld}
 use Rattle.shard_calls.proofs.RunLemmas.{later_at, truthful_at, told_by_wait, row_kind}
 use Rattle.shard_laws.specs.TightMoves.{IsPosted}
 use Rattle.shard_laws.specs.Shown.{RowWasTold}
-use Rattle.shard_laws.proofs.AmongLemmas.{contains_among, map_among}
 use Rattle.shard_laws.proofs.TraceLemmas.{climb, one_content}
 use Rattle.shard_laws.proofs.LeaderLemmas.{place_passes}
 use Rattle.shard_laws.proofs.GroundLemmas.{one_intent}
-use Rattle.shard_laws.proofs.HeardLemmas.{bind_some, AnswersTo, IsAsked, asked_in, settled_by}
+use Rattle.shard_laws.proofs.HeardLemmas.{bind_some, AnswersTo, settled_by}
 use Rattle.shard_laws.proofs.CommandLemmas.{NextIs, AtEnd, BySteps, next_is}
 
 -- ---- a tablet answers by a step
@@ -193,7 +196,7 @@ posted_later config ss n content i j run le =
 
 -- ---- the row that a reparent was told
 
-wait_call : (call : Call) → is_wait_told call ≡ true → (until : ℕ) × (call ≡ calls.WaitTold until)
+wait_call : (call : Call) → kind_eq (kind_of call) call_kinds.WaitTold ≡ true → (until : ℕ) × (call ≡ calls.WaitTold until)
 wait_call calls.Status h = absurd (false≢true h)
 wait_call calls.Stop h = absurd (false≢true h)
 wait_call calls.Demote h = absurd (false≢true h)
@@ -203,7 +206,7 @@ wait_call calls.Feed h = absurd (false≢true h)
 wait_call (calls.WaitFor p until) h = absurd (false≢true h)
 wait_call (calls.WaitTold until) h = (until, refl)
 
-told_outcome : (o : Option Outcome) → is_told_so o ≡ true → o ≡ Some (Answered says.Told)
+told_outcome : (o : Option Outcome) → outcome_passes is_told_answer o ≡ true → o ≡ Some (Answered says.Told)
 told_outcome None h = absurd (false≢true h)
 told_outcome (Some (GivenUp why)) h = absurd (false≢true h)
 told_outcome (Some (Answered says.Told)) h = refl
@@ -235,38 +238,25 @@ pub record WaitTold (w : World) (a : Alias) (t : ℕ) : Type 0 where
   carries : message.content ≡ contents.Asks command t a (calls.WaitTold until)
   answers : AnswersTo w number a says.Told
 
-told_sending : (w : World) (x : Sending) (a : Alias) (t : ℕ) → IsTellingWorld w → IsAsked w x → is_wait_told x.call ≡ true → x.to ≡ a → x.term ≡ t
-    → is_told_so x.outcome ≡ true → WaitTold w a t
-told_sending w x a t telling asked kind to term came =
-    let call = wait_call x.call kind in
-    let carries : asked.message.content ≡ contents.Asks asked.command t a (calls.WaitTold call.0) =
-    asked.carries
-    ∙ ap (λ (f : Call). contents.Asks asked.command x.term x.to f) call.1
-    ∙ ap (λ (b : Alias). contents.Asks asked.command x.term b (calls.WaitTold call.0)) to
-    ∙ ap (λ (u : ℕ). contents.Asks asked.command u a (calls.WaitTold call.0)) term in
+told_by_said : (w : World) (a : Alias) (t : ℕ) → IsTellingWorld w → WasSaid w.post t call_kinds.WaitTold a is_told_answer → WaitTold w a t
+told_by_said w a t telling said =
+    let call = wait_call said.call said.of_kind in
+    let carries : said.message.content ≡ contents.Asks said.command t a (calls.WaitTold call.0) =
+    said.carries ∙ ap (λ (f : Call). contents.Asks said.command t a f) call.1 in
     record {
-      number = asked.number;
-      message = asked.message;
-      command = asked.command;
+      number = said.number;
+      message = said.message;
+      command = said.command;
       until = call.0;
-      at = asked.at;
+      at = said.at;
       carries = carries;
-      answers = settled_by w asked.number asked.command t a (calls.WaitTold call.0) asked.message says.Told asked.message.settled telling asked.at carries refl
-          (sym asked.outcome ∙ told_outcome x.outcome came);
+      answers = settled_by w said.number said.command t a (calls.WaitTold call.0) said.message says.Told said.message.settled telling said.at carries refl
+          (told_outcome (outcome_of w.post said.message) said.passes);
     }
 
-pub told_among : (w : World) (done : List Act) (a : Alias) (t : ℕ) → IsTellingWorld w → came_to_in t is_wait_told a is_told_so (sendings w.post done) ≡ true → WaitTold w a t
-told_among w done a t telling h =
-    let r = one_passes (λ s. is_wait_told s.call && alias_eq s.to a && (s.term == t) && is_told_so s.outcome) (sendings w.post done) h in
-    let x : Sending = r.0 in
-    let act = map_among (sending_of w.post) done x (contains_among (sendings w.post done) x r.1) in
-    let front : (is_wait_told x.call && alias_eq x.to a && (x.term == t)) ≡ true =
-    both_left (is_wait_told x.call && alias_eq x.to a && (x.term == t)) (is_told_so x.outcome) r.2 in
-    let names : (is_wait_told x.call && alias_eq x.to a) ≡ true = both_left (is_wait_told x.call && alias_eq x.to a) (x.term == t) front in
-    told_sending w x a t telling (asked_in w act.0 x act.2) (both_left (is_wait_told x.call) (alias_eq x.to a) names)
-    (alias_eq_is x.to a (both_right (is_wait_told x.call) (alias_eq x.to a) names))
-    (same_number x.term t (both_right (is_wait_told x.call && alias_eq x.to a) (x.term == t) front))
-    (both_right (is_wait_told x.call && alias_eq x.to a && (x.term == t)) (is_told_so x.outcome) r.2)
+pub told_among : (w : World) (s : CommandState) (a : Alias) (t : ℕ) → IsTellingWorld w → any_said_in t call_kinds.WaitTold a is_told_answer (span_in w.post s) ≡ true
+    → WaitTold w a t
+told_among w s a t telling h = told_by_said w a t telling (was_said w.post s t call_kinds.WaitTold a is_told_answer h)
 
 -- the row of the term, at its index
 record RowAt (log : List Entry) (t : ℕ) : Type 0 where

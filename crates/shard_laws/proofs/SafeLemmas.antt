@@ -5,6 +5,7 @@ use Rattle.shard_calls.proofs.ActLemmas.{acts_are_steps}
 use Rattle.shard_calls.proofs.RunLemmas.{one_promotion, promotes_intended, logs_only_grow, one_entry_each, logs_are_closed, acks_are_held, noted_is_held, keeps_told, answers_have_causes, outcomes_are_steps}
 use Rattle.shard_calls.proofs.AcceptLemmas.{told_is_accepted, not_told_is_late}
 use Rattle.shard_laws.proofs.LeaderLemmas.{leader_complete}
+use Rattle.shard_laws.proofs.GroundedLemmas.{promotes_on_grounds}
 use Rattle.shard_laws.proofs.NetworkLemmas.{nothing_crosses_a_cut, who_is_down_hears_nothing}
 use Rattle.shard_laws.proofs.ShownLemmas.{shown_by_steps}
 
@@ -14,6 +15,7 @@ every_run_is_safe config ss is run = record {
   run = run;
   one_promotion = one_promotion config ss run;
   intended = promotes_intended config ss run;
+  promotes_on_grounds = promotes_on_grounds config ss is run;
   holds_told = leader_complete config ss is run;
   logs_grow = logs_only_grow config ss run;
   one_entry = one_entry_each config ss is run;

@@ -1,11 +1,14 @@
 -- That answers are shown by the steps before them.
-use Rattle.std.proofs.Common.{◌≡◌, ◌⊎◌, inl, inr, ◌≤◌, ◌<◌, ℕ, zero, suc, Bool, true, not, ◌&&◌, ◌==◌, refl, ap, sym, subst, ◌∙◌, arith, cond, List, [], ◌∷◌, take, Option, Some, None, is_some}
+use Rattle.std.proofs.Common.{◌≡◌, ◌⊎◌, inl, inr, ◌≤◌, ◌<◌, ℕ, zero, suc, Bool, true, false, not, ◌&&◌, ◌==◌, refl, ap, sym, subst, ◌∙◌, arith, cond, List, [], ◌∷◌, take, Option, Some, None, Ok, Err, is_some, map}
 use Rattle.std.proofs.lemmas.Bool.{false≢true}
 use Rattle.std.proofs.lemmas.Bool.Decides.{nat_tests}
 use Rattle.std.specs.List.{slice_get, list_any}
 use Rattle.shard_base.specs.Options.{◌>>=◌}
 use Rattle.shard_names.specs.declared.alias.Alias.{Alias}
 use Rattle.shard_names.specs.Tablets.{alias_eq}
+use Rattle.shard_names.specs.declared.shard_name.ShardName.{ShardName}
+use Rattle.topo_lock.specs.declared.intent.Record.{Record}
+use Rattle.shard_calls.specs.declared.ending.TabletRow.{TabletRow}
 use Rattle.shard_names.proofs.TabletLemmas.{both_left, both_right, alias_eq_is}
 use Rattle.gtid_sets.specs.declared.gtid.Gtid.{Gtid}
 use Rattle.gtid_sets.specs.Gtid.{gtid_eq}
@@ -22,7 +25,11 @@ use Rattle.shard_calls.specs.declared.event.Event.{Event}
 use Rattle.shard_calls.specs.declared.event.Event.TheVariants as events
 use Rattle.shard_calls.specs.declared.event.Reply.{Reply}
 use Rattle.shard_calls.specs.declared.event.Reply.TheVariants as replies
+use Rattle.shard_calls.specs.declared.event.Seen.{Seen}
 use Rattle.shard_calls.specs.declared.event.Step.{Step}
+use Rattle.shard_calls.specs.declared.span.Deed.{Deed}
+use Rattle.shard_calls.specs.declared.span.Kind.TheVariants as kinds
+use Rattle.shard_calls.specs.Spans.{span_in}
 use Rattle.shard_calls.specs.declared.stand.Standing.{Standing}
 use Rattle.shard_calls.specs.declared.state.Act.{Act}
 use Rattle.shard_calls.specs.declared.state.Act.TheVariants as acts
@@ -33,7 +40,8 @@ use Rattle.shard_calls.specs.declared.state.Wrote.{Wrote}
 use Rattle.shard_calls.specs.Stands.{is_primary_of, standing_of}
 use Rattle.shard_calls.specs.Tablets.{TabletState}
 use Rattle.shard_calls.specs.World.{Config, World, opening, numbered, open_command}
-use Rattle.shard_calls.specs.Causes.{standing_eq, position_eq, wrote_this, is_told_act, says_not_primary, showed, has_command_cause, has_cause}
+use Rattle.shard_calls.specs.Causes.{wrote_this, is_told_act, says_not_primary, showed, row_of, any_read, any_answer, records_it, is_last_intended, stands_promoted, has_command_cause, has_cause}
+use Rattle.shard_calls.specs.Same.{standing_eq, position_eq}
 use Rattle.shard_calls.specs.Begins.{shown_of, shown_by}
 use Rattle.shard_calls.specs.Locks.{seen_of}
 use Rattle.shard_calls.specs.Writes.{tell_reply}
@@ -45,11 +53,12 @@ use Rattle.shard_calls.proofs.WroteLemmas.{wrote_in, WroteFits}
 use Rattle.shard_calls.proofs.CauseLemmas.{promoted_has_row}
 use Rattle.shard_calls.proofs.ActLemmas.{if_open_is, acts_are_steps}
 use Rattle.shard_calls.proofs.RunLemmas.{step_along, next_world, truthful_at}
-use Rattle.shard_laws.specs.Shown.{HadStep, RowWasTold, WriteWasTold, BeganIn, StandsSo, ShownBy, ShownBySteps}
+use Rattle.shard_laws.specs.Shown.{HadStep, RowWasTold, WriteWasTold, WasRecorded, BeganIn, StandsSo, ShownBy, ShownBySteps}
 use Rattle.shard_laws.proofs.TraceLemmas.{climb}
 use Rattle.shard_laws.proofs.CommandLemmas.{WritesNow, Goes, BegunBy, CameFrom, change_of, forward, backward, NextIs, AtEnd, BySteps, next_is}
 use Rattle.shard_laws.proofs.RowLemmas.{told_among, row_was_told}
-use Rattle.shard_laws.proofs.EndLemmas.{standing_is, ending, committed_cause, unknown_cause, not_primary_cause, no_primary_cause, shown_cause, told_cause, is_of_write, DoneBy, ByTold, ByGone, ByRefusal, done_by, told_act, refused_act, ActStep, act_step, step_act}
+use Rattle.shard_laws.proofs.ReadLemmas.{reads_so, records_so, read_among, recorded_among, read_act, recorded_act, intended_last, promoted_intent, nothing_cause, recorded_cause}
+use Rattle.shard_laws.proofs.EndLemmas.{standing_is, ending, committed_cause, unknown_cause, not_primary_cause, no_primary_cause, shown_cause, shard_cause, tablets_cause, told_cause, is_shown, DoneBy, ByRead, ByRecord, ByTold, ByGone, ByEntry, ByRefusal, done_by, told_act, refused_act, ActStep, act_step, step_act}
 
 -- ---- what was before
 
@@ -175,22 +184,46 @@ step_is : (s : Step) (e : Event) (r : Reply) → s.event ≡ e → s.reply ≡ r
 step_is s e r p q =
     ap (λ (v : Event). let y : Step = record { event = v; reply = s.reply } in y) p ∙ ap (λ (v : Reply). let y : Step = record { event = e; reply = v } in y) q
 
-by_told : (c : ℕ) (e : Event) (r : Reply) (act : Act) → DoneBy c e r act → act ≡ acts.Told → (e ≡ events.Tell c) × (r ≡ replies.Told)
+by_told : (c : ℕ) (e : Event) (r : Reply) (act : Act) → DoneBy c e r act → act ≡ acts.Told true → (e ≡ events.Tell c) × (r ≡ replies.Told)
+by_told c _ _ _ (ByRead seen) is = absurd (let wrong : acts.Read (Ok seen) ≡ acts.Told true = is in cc)
+by_told c _ _ _ (ByRecord a) is = absurd (let wrong : acts.Recorded a (Ok tt) ≡ acts.Told true = is in cc)
 by_told c _ _ _ ByTold is = (refl, refl)
-by_told c _ _ _ ByGone is = absurd (let wrong : acts.Gone ≡ acts.Told = is in cc)
-by_told c _ _ _ (ByRefusal a at) is = absurd (let wrong : acts.NotPrimary a at ≡ acts.Told = is in cc)
+by_told c _ _ _ ByGone is = absurd (let wrong : acts.Told false ≡ acts.Told true = is in cc)
+by_told c _ _ _ (ByEntry a g) is = absurd (let wrong : acts.Wrote a (Ok g) ≡ acts.Told true = is in cc)
+by_told c _ _ _ (ByRefusal a at) is = absurd (let wrong : acts.Wrote a (Err at) ≡ acts.Told true = is in cc)
 
-by_refusal : (c : ℕ) (a : Alias) (at : Standing) (e : Event) (r : Reply) (act : Act) → DoneBy c e r act → act ≡ acts.NotPrimary a at
+by_refusal : (c : ℕ) (a : Alias) (at : Standing) (e : Event) (r : Reply) (act : Act) → DoneBy c e r act → act ≡ acts.Wrote a (Err at)
     → (e ≡ events.Write c a) × (r ≡ replies.NotPrimary at)
-by_refusal c a at _ _ _ ByTold is = absurd (let wrong : acts.Told ≡ acts.NotPrimary a at = is in cc)
-by_refusal c a at _ _ _ ByGone is = absurd (let wrong : acts.Gone ≡ acts.NotPrimary a at = is in cc)
+by_refusal c a at _ _ _ (ByRead seen) is = absurd (let wrong : acts.Read (Ok seen) ≡ acts.Wrote a (Err at) = is in cc)
+by_refusal c a at _ _ _ (ByRecord b) is = absurd (let wrong : acts.Recorded b (Ok tt) ≡ acts.Wrote a (Err at) = is in cc)
+by_refusal c a at _ _ _ ByTold is = absurd (let wrong : acts.Told true ≡ acts.Wrote a (Err at) = is in cc)
+by_refusal c a at _ _ _ ByGone is = absurd (let wrong : acts.Told false ≡ acts.Wrote a (Err at) = is in cc)
+by_refusal c a at _ _ _ (ByEntry b g) is = absurd (let wrong : acts.Wrote b (Ok g) ≡ acts.Wrote a (Err at) = is in cc)
 by_refusal c a at _ _ _ (ByRefusal b stand) is =
-    let who : b ≡ a = (let same : acts.NotPrimary b stand ≡ acts.NotPrimary a at = is in cc) in
-    let how : stand ≡ at = (let same : acts.NotPrimary b stand ≡ acts.NotPrimary a at = is in cc) in
+    let who : b ≡ a = (let same : acts.Wrote b (Err stand) ≡ acts.Wrote a (Err at) = is in cc) in
+    let how : stand ≡ at = (let same : acts.Wrote b (Err stand) ≡ acts.Wrote a (Err at) = is in cc) in
     (ap (λ (x : Alias). events.Write c x) who, ap (λ (x : Standing). replies.NotPrimary x) how)
 
--- the step that did an act of a write
-did_it : (config : Config) (ss : List Step) (i c : ℕ) (p : Act → Bool) → IsRun config ss → (h : ActStep c p ss i) → is_of_write h.act ≡ true
+by_read : (c : ℕ) (seen : Seen) (e : Event) (r : Reply) (act : Act) → DoneBy c e r act → act ≡ acts.Read (Ok seen) → (e ≡ events.Read c) × (r ≡ replies.Read seen)
+by_read c seen _ _ _ (ByRead other) is =
+    let same : other ≡ seen = (let read : acts.Read (Ok other) ≡ acts.Read (Ok seen) = is in cc) in (refl, ap (λ (x : Seen). replies.Read x) same)
+by_read c seen _ _ _ (ByRecord a) is = absurd (let wrong : acts.Recorded a (Ok tt) ≡ acts.Read (Ok seen) = is in cc)
+by_read c seen _ _ _ ByTold is = absurd (let wrong : acts.Told true ≡ acts.Read (Ok seen) = is in cc)
+by_read c seen _ _ _ ByGone is = absurd (let wrong : acts.Told false ≡ acts.Read (Ok seen) = is in cc)
+by_read c seen _ _ _ (ByEntry a g) is = absurd (let wrong : acts.Wrote a (Ok g) ≡ acts.Read (Ok seen) = is in cc)
+by_read c seen _ _ _ (ByRefusal a at) is = absurd (let wrong : acts.Wrote a (Err at) ≡ acts.Read (Ok seen) = is in cc)
+
+by_record : (c : ℕ) (a : Alias) (e : Event) (r : Reply) (act : Act) → DoneBy c e r act → act ≡ acts.Recorded a (Ok tt) → (e ≡ events.Record c a) × (r ≡ replies.Ok)
+by_record c a _ _ _ (ByRead seen) is = absurd (let wrong : acts.Read (Ok seen) ≡ acts.Recorded a (Ok tt) = is in cc)
+by_record c a _ _ _ (ByRecord b) is =
+    let same : b ≡ a = (let recorded : acts.Recorded b (Ok tt) ≡ acts.Recorded a (Ok tt) = is in cc) in (ap (λ (x : Alias). events.Record c x) same, refl)
+by_record c a _ _ _ ByTold is = absurd (let wrong : acts.Told true ≡ acts.Recorded a (Ok tt) = is in cc)
+by_record c a _ _ _ ByGone is = absurd (let wrong : acts.Told false ≡ acts.Recorded a (Ok tt) = is in cc)
+by_record c a _ _ _ (ByEntry b g) is = absurd (let wrong : acts.Wrote b (Ok g) ≡ acts.Recorded a (Ok tt) = is in cc)
+by_record c a _ _ _ (ByRefusal b at) is = absurd (let wrong : acts.Wrote b (Err at) ≡ acts.Recorded a (Ok tt) = is in cc)
+
+-- the step that did an act on which an answer rests
+did_it : (config : Config) (ss : List Step) (i c : ℕ) (p : Act → Bool) → IsRun config ss → (h : ActStep c p ss i) → is_shown h.act ≡ true
     → DoneBy c h.step.event h.step.reply h.act
 did_it config ss i c p run h of_write =
     let w : World = world_at config ss h.place in
@@ -214,14 +247,32 @@ had_refused config ss i c s a at run here h =
     let by = by_refusal c a at found.step.event found.step.reply found.act (did_it config ss i c (says_not_primary a at) run found told.1) told.0 in
     (found.place, found.earlier, found.here ∙ ap (λ (y : Step). Some y) (step_is found.step (events.Write c a) (replies.NotPrimary at) by.0 by.1))
 
+had_read : (config : Config) (ss : List Step) (i c : ℕ) (s : CommandState) (test : Seen → Bool) → IsRun config ss → numbered (world_at config ss i).commands c ≡ Some s
+    → any_read test (span_in (world_at config ss i).post s) ≡ true → (seen : Seen) × HadStep ss i (events.Read c) (replies.Read seen) × (test seen ≡ true)
+had_read config ss i c s test run here h =
+    let did : list_any (reads_so test) s.acts ≡ true = read_among (world_at config ss i).post s test h in
+    let found = act_step c (reads_so test) ss i (ap (λ (l : List Act). list_any (reads_so test) l) (sym (acts_so_far config ss i c s run here)) ∙ did) in
+    let read = read_act test found.act found.passes in
+    let by = by_read c read.0 found.step.event found.step.reply found.act (did_it config ss i c (reads_so test) run found read.2) read.1 in
+    (read.0, (found.place, found.earlier, found.here ∙ ap (λ (y : Step). Some y) (step_is found.step (events.Read c) (replies.Read read.0) by.0 by.1)), read.3)
+
+had_recorded : (config : Config) (ss : List Step) (i c : ℕ) (s : CommandState) (a : Alias) → IsRun config ss → numbered (world_at config ss i).commands c ≡ Some s
+    → list_any (records_it a) (span_in (world_at config ss i).post s) ≡ true → HadStep ss i (events.Record c a) replies.Ok
+had_recorded config ss i c s a run here h =
+    let did : list_any (records_so a) s.acts ≡ true = recorded_among (world_at config ss i).post s a h in
+    let found = act_step c (records_so a) ss i (ap (λ (l : List Act). list_any (records_so a) l) (sym (acts_so_far config ss i c s run here)) ∙ did) in
+    let recorded = recorded_act a found.act found.passes in
+    let by = by_record c a found.step.event found.step.reply found.act (did_it config ss i c (records_so a) run found recorded.1) recorded.0 in
+    (found.place, found.earlier, found.here ∙ ap (λ (y : Step). Some y) (step_is found.step (events.Record c a) replies.Ok by.0 by.1))
+
 -- a command that was told has this act
 has_told : (config : Config) (ss : List Step) (i c : ℕ) (s : CommandState) → IsRun config ss → numbered (world_at config ss i).commands c ≡ Some s
     → HadStep ss i (events.Tell c) replies.Told → list_any is_told_act s.acts ≡ true
 has_told config ss i c s run here h =
     let own : (c == c) ≡ true = grind (arith, nat_tests) in
-    let did : act_of c (events.Tell c) replies.Told ≡ Some acts.Told = ap (λ (b : Bool). cond b (Some acts.Told) None) own in
+    let did : act_of c (events.Tell c) replies.Told ≡ Some (acts.Told true) = ap (λ (b : Bool). cond b (Some (acts.Told true)) None) own in
     ap (λ (l : List Act). list_any is_told_act l) (acts_so_far config ss i c s run here)
-    ∙ step_act c is_told_act ss i h.0 (record { event = events.Tell c; reply = replies.Told }) acts.Told h.1 h.2 did refl
+    ∙ step_act c is_told_act ss i h.0 (record { event = events.Tell c; reply = replies.Told }) (acts.Told true) h.1 h.2 did refl
 
 -- ---- what a command wrote
 
@@ -329,6 +380,19 @@ saw_tablet config ss i c s a at p h is shown =
     began_in config ss i c s (commands.Show a) (StandsSo a at p) h is
     (stands_so a at p (w.tablets a) (ap (λ (o : Option Shown). showed o at p) (sym opened) ∙ shown))
 
+saw_record : (config : Config) (ss : List Step) (i c : ℕ) (s : CommandState) (shard : ShardName) (recorded : Option Record) → Began config ss i c s
+    → s.command ≡ commands.GetShard shard → s.opening.seen.recorded ≡ recorded
+    → BeganIn config ss i c (commands.GetShard shard) (λ w. w.topo.recorded ≡ recorded)
+saw_record config ss i c s shard recorded h is saw =
+    began_in config ss i c s (commands.GetShard shard) (λ w. w.topo.recorded ≡ recorded) h is (ap (λ (o : Opening). o.seen.recorded) (sym h.opened) ∙ saw)
+
+saw_rows : (config : Config) (ss : List Step) (i c : ℕ) (s : CommandState) (shard : ShardName) (rows : List TabletRow) → Began config ss i c s
+    → s.command ≡ commands.GetTablets shard → rows ≡ map (row_of s.opening.seen) config.tablets
+    → BeganIn config ss i c (commands.GetTablets shard) (λ w. rows ≡ map (row_of (seen_of w.topo)) config.tablets)
+saw_rows config ss i c s shard rows h is saw =
+    began_in config ss i c s (commands.GetTablets shard) (λ w. rows ≡ map (row_of (seen_of w.topo)) config.tablets) h is
+    (saw ∙ ap (λ (o : Opening). map (row_of o.seen) config.tablets) h.opened)
+
 -- ---- each answer
 
 row_told_by : (config : Config) (ss : List Step) (i c : ℕ) (s : CommandState) (a : Alias) (t : ℕ) (left : List NotJoined) → IsRun config ss
@@ -338,18 +402,37 @@ row_told_by config ss i c s a t left run caused cause =
     let w : World = world_at config ss i in
     let truth = truthful_at config ss i run in
     row_was_told config ss i a t run (promoted_has_row config w (open_command w c) a t left truth.sound truth.telling caused).intended
-    (told_among w s.acts a t truth.telling (told_cause config w s s.command a t left cause))
+    (told_among w s a t truth.telling (told_cause config w s s.command a t left cause))
 
 never_told : (config : Config) (ss : List Step) (i c : ℕ) (s : CommandState) → IsRun config ss → numbered (world_at config ss i).commands c ≡ Some s
     → not (list_any is_told_act s.acts) ≡ true → HadStep ss i (events.Tell c) replies.Told → ⊥
 never_told config ss i c s run here never told = false≢true (ap not (sym (has_told config ss i c s run here told)) ∙ never)
 
+was_recorded : (config : Config) (ss : List Step) (i c : ℕ) (s : CommandState) (t : ℕ) → IsRun config ss → numbered (world_at config ss i).commands c ≡ Some s
+    → has_command_cause config (world_at config ss i) s s.command (ends.Recorded t) ≡ true → WasRecorded config ss i c t
+was_recorded config ss i c s t run here cause =
+    let span : List Deed = span_in (world_at config ss i).post s in
+    let is = recorded_cause config (world_at config ss i) s s.command t cause in
+    let read = had_read config ss i c s (λ seen. any_answer kinds.Status is.0 (stands_promoted is.0 seen.intent t) span) run here is.1 in
+    let intent = promoted_intent is.0 read.0.intent t span read.2 in
+    record {
+      alias = is.0;
+      began = began_in config ss i c s (commands.External is.0) (λ w. Unit {0}) (began_before config ss i c s run here).0 is.3 tt;
+      intent = intent.0;
+      of_term = intent.2;
+      read = (read.0, read.1, intent.1);
+      recorded = had_recorded config ss i c s is.0 run here is.2;
+    }
+
 shown_answer : (config : Config) (ss : List Step) (i c : ℕ) (x : CommandAnswer) → IsRun config ss
     → has_cause config (world_at config ss i) (open_command (world_at config ss i) c) x ≡ true → (s : CommandState) → numbered (world_at config ss i).commands c ≡ Some s
     → has_command_cause config (world_at config ss i) s s.command x ≡ true → ShownBy config ss i c x
 shown_answer config ss i c (ends.Promoted a t left) run caused s here cause = row_told_by config ss i c s a t left run caused cause
-shown_answer config ss i c (ends.NothingToDo a) run caused s here cause = tt
-shown_answer config ss i c (ends.Recorded t) run caused s here cause = tt
+shown_answer config ss i c (ends.NothingToDo a) run caused s here cause =
+    let read = had_read config ss i c s (λ seen. is_last_intended a seen.intent) run here (nothing_cause config (world_at config ss i) s s.command a cause) in
+    let intent = intended_last a read.0.intent read.2 in
+    (intent.0, (read.0, read.1, intent.1), intent.2)
+shown_answer config ss i c (ends.Recorded t) run caused s here cause = was_recorded config ss i c s t run here cause
 shown_answer config ss i c (ends.Refused refusal tried) run caused s here cause = tt
 shown_answer config ss i c (ends.Committed g a t) run caused s here cause =
     let is = committed_cause config (world_at config ss i) s s.command g a t cause in
@@ -371,6 +454,12 @@ shown_answer config ss i c (ends.Unknown g a t) run caused s here cause =
 shown_answer config ss i c (ends.Shown a at p) run caused s here cause =
     let is = shown_cause config (world_at config ss i) s s.command a at p cause in
     saw_tablet config ss i c s a at p (began_before config ss i c s run here).0 is.0 is.1
+shown_answer config ss i c (ends.Shard shard recorded) run caused s here cause =
+    let is = shard_cause config (world_at config ss i) s s.command shard recorded cause in
+    saw_record config ss i c s shard recorded (began_before config ss i c s run here).0 is.0 is.1
+shown_answer config ss i c (ends.Tablets rows) run caused s here cause =
+    let is = tablets_cause config (world_at config ss i) s s.command rows cause in
+    (is.0, saw_rows config ss i c s is.0 rows (began_before config ss i c s run here).0 is.1 is.2)
 
 pub shown_by_steps : OfEveryRun ShownBySteps
 shown_by_steps config ss run i c x here =

@@ -11,7 +11,7 @@ use Rattle.shard_calls.specs.declared.answer.Answer.{Answer}
 use Rattle.shard_calls.specs.declared.call.Call.TheVariants as calls
 use Rattle.shard_calls.specs.declared.stand.Stand.{Stand}
 use Rattle.shard_calls.specs.declared.stand.Stand.TheVariants as stands
-use Rattle.shard_calls.specs.Groups.{Group}
+use Rattle.shard_calls.specs.declared.group.Group.{Group}
 use Rattle.shard_calls.specs.Stands.{is_down, is_primary_of, is_replica_in}
 use Rattle.shard_calls.specs.Tablets.{TabletState, Verdict, in_term, promotes, joins, verdict, restarts}
 use Rattle.shard_calls.proofs.LawLemmas.{chosen}

@@ -29,10 +29,7 @@ use Rattle.shard_calls.specs.Tablets.{TabletState, Verdict, only_says, in_term, 
 use Rattle.shard_calls.specs.World.{Config, World, numbered, term_in, open_command}
 use Rattle.shard_calls.specs.Messages.{Indexed, needed, feeds_term, may_feed, is_cut, is_under_way, link_between, feed_of, offered_by}
 use Rattle.shard_calls.specs.Locks.{by_term}
-use Rattle.shard_calls.specs.World.{is_eligible_alias, may_be_promoted}
-use Rattle.shard_calls.specs.Outcomes.{sendings}
-use Rattle.shard_calls.specs.Evidence.{intends, is_first_ground, has_evidence}
-use Rattle.shard_calls.specs.Grounds.{may_lead, last_before, gave_up, stopped_all, has_any_ground, grounded}
+use Rattle.shard_calls.specs.Grounds.{calls_at, grounded}
 use Rattle.shard_calls.specs.Deliveries.{may_send, may_ask_in, asks_status}
 use Rattle.shard_calls.specs.Table.{Met, after}
 use Rattle.shard_laws.specs.TightMoves.{IsPosted, TightMove, Stays, Sees, Stops, Demotes, Joins, Serves, Enters, Takes, Skips, Writes, WritesLocal, Hears, GoesDown, ComesUp, Plainly, CallFits, Sends, Asks, Answers, Acks, Feeds, WorldMove}
@@ -179,29 +176,18 @@ touched_moved config w a _ _ Restarted =
 
 -- ---- the post
 
-same_lead : (config : Config) (o : Option Tablet) → may_be_promoted config.policy o ≡ may_lead (rules_of config.policy) o
-same_lead config None = refl
-same_lead config (Some t) = refl
-
--- what the table asks for is one of the grounds
-first_is_ground : (config : Config) (w : World) (c u : ℕ) (a : Alias) (p : Position) → has_evidence config w c u a p ≡ true
-    → grounded (rules_of config.policy) config.tablets w.topo (sendings w.post []) u a p ≡ true
-first_is_ground config w c u a p h =
-    ap (λ (b : Bool). b && intends w.topo u a && has_any_ground (rules_of config.policy) config.tablets w.topo (sendings w.post []) u p)
-    (sym (same_lead config (tablet_of config.tablets a)) ∙ both_left (is_eligible_alias config a) (intends w.topo u a) front)
-    ∙ ap (λ (b : Bool). true && b && has_any_ground (rules_of config.policy) config.tablets w.topo (sendings w.post []) u p) (both_right (is_eligible_alias config a) (intends w.topo u a) front)
-    ∙ ap (λ (b : Bool). true && true && (b || gave_up (sendings w.post []) u p (last_before w.topo u) || stopped_all (rules_of config.policy) config.tablets (sendings w.post []) u p))
-    (both_right (is_eligible_alias config a && intends w.topo u a) (is_first_ground w u p) h)
-  where
-    front : (is_eligible_alias config a && intends w.topo u a) ≡ true
-    front = both_left (is_eligible_alias config a && intends w.topo u a) (is_first_ground w u p) h
+-- the calls of the command are the evidence
+promote_fits : (config : Config) (w : World) (u : ℕ) (a : Alias) (p : Position) (o : Option CommandState)
+    → grounded (rules_of config.policy) config.tablets w.topo (calls_at w o) u a p ≡ true → CallFits (rules_of config.policy) config w u a (calls.Promote p)
+promote_fits config w u a p None met = ([], met)
+promote_fits config w u a p (Some s) met = (s.acts, met)
 
 call_fits : (config : Config) (w : World) (c : ℕ) (a : Alias) (call : Call) (u : ℕ) → may_ask_in config w c a call u ≡ true
     → CallFits (rules_of config.policy) config w u a call
 call_fits config w c a calls.Status u met = tt
 call_fits config w c a calls.Stop u met = tt
 call_fits config w c a calls.Demote u met = tt
-call_fits config w c a (calls.Promote p) u met = ([], first_is_ground config w c u a p met)
+call_fits config w c a (calls.Promote p) u met = promote_fits config w u a p (numbered w.commands c) met
 call_fits config w c a (calls.SetSource source t p) u met = grind (arith, nat_tests)
 call_fits config w c a calls.Feed u met = tt
 call_fits config w c a (calls.WaitFor p until) u met = tt

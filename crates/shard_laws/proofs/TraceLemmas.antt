@@ -20,7 +20,7 @@ use Rattle.shard_calls.specs.declared.post.Message.{Message}
 use Rattle.shard_calls.specs.declared.stand.Stand.{Stand}
 use Rattle.shard_calls.specs.declared.stand.Stand.TheVariants as stands
 use Rattle.shard_calls.specs.Stands.{is_stopped, is_primary_of, is_replica_in, is_feeder_in}
-use Rattle.shard_calls.specs.Groups.{Group}
+use Rattle.shard_calls.specs.declared.group.Group.{Group}
 use Rattle.gtid_sets.specs.Logs.{position_of, has_row, newest_row, newest_row_names}
 use Rattle.shard_calls.specs.Tablets.{TabletState, Verdict, opened, is_row_told, in_term, stops, demotes, promotes, joins, feeds, waits_for_position, waits_told, after_call, answer_to}
 use Rattle.shard_calls.specs.World.{Config, IsConfig, World, numbered}

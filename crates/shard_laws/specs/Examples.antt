@@ -12,7 +12,8 @@ use Rattle.gtid_sets.specs.declared.entry.Kind.TheVariants as kinds
 use Rattle.gtid_sets.specs.declared.gtid.Gtid.{Gtid}
 use Rattle.gtid_sets.specs.Logs.{holds}
 use Rattle.gtid_sets.specs.Position.{Position, nothing, of_gtids, has, count}
-use Rattle.gtid_sets.specs.Winner.{Held, winner}
+use Rattle.gtid_sets.specs.declared.held.Held.{Held}
+use Rattle.gtid_sets.specs.Winner.{winner}
 use Rattle.durability.specs.Policies.{rules_of}
 use Rattle.durability.specs.Rules.{Rules}
 use Rattle.durability.specs.declared.policy.Durability.TheVariants as policies
@@ -27,7 +28,8 @@ use Rattle.shard_calls.specs.declared.state.Act.{Act}
 use Rattle.shard_calls.specs.declared.state.CommandState.{CommandState}
 use Rattle.shard_calls.specs.Tablets.{opened}
 use Rattle.shard_calls.specs.World.{Config, World, opening, main_name, numbered}
-use Rattle.shard_calls.specs.Outcomes.{Answered, Sending, sendings}
+use Rattle.shard_calls.specs.declared.span.Outcome.TheVariants.{Answered}
+use Rattle.shard_calls.specs.Outcomes.{Sending, sendings}
 use Rattle.shard_calls.specs.Grounds.{grounded, stopped_at}
 use Rattle.shard_calls.specs.Table.{meets, after}
 use Rattle.shard_laws.specs.TightMoves.{IsPosted}
@@ -149,7 +151,7 @@ abbrev pub events_of_stop : List Event
 events_of_stop =
     events.Offer (alias_of 102)
     ∷ events.Crash (alias_of 100) 0
-    ∷ events.Begin main_name (commands.Planned commerce (Some (alias_of 101)) None None None false)
+    ∷ events.Begin main_name (commands.Emergency commerce (Some (alias_of 101)) [] None None false)
     ∷ events.Take 2
     ∷ events.Read 2
     ∷ events.Intend 2 (alias_of 101)

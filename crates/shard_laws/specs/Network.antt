@@ -113,9 +113,13 @@ pub data IsLost (post : List Message) (k : ℕ) (asks : Message) : Type 0 where
 abbrev pub patience : Command → ℕ
 patience (commands.Planned shard new_primary avoid expected None allow_cross_cell) = 15000
 patience (commands.Planned shard new_primary avoid expected (Some ms) allow_cross_cell) = ms
+patience (commands.Emergency shard new_primary ignored expected None prevent_cross_cell) = 15000
+patience (commands.Emergency shard new_primary ignored expected (Some ms) prevent_cross_cell) = ms
 patience (commands.External a) = 15000
 patience (commands.Write to) = 15000
 patience (commands.Show a) = 15000
+patience (commands.GetShard shard) = 15000
+patience (commands.GetTablets shard) = 15000
 
 -- a call that says itself until when it waits
 pub data HasOwnLimit : Call → Type 0 where

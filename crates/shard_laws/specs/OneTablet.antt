@@ -13,7 +13,7 @@ use Rattle.shard_calls.specs.declared.answer.Answer.{Answer}
 use Rattle.shard_calls.specs.declared.answer.Answer.TheVariants as answers
 use Rattle.shard_calls.specs.declared.call.Call.TheVariants as calls
 use Rattle.shard_calls.specs.declared.stand.Stand.TheVariants as stands
-use Rattle.shard_calls.specs.Groups.{Group}
+use Rattle.shard_calls.specs.declared.group.Group.{Group}
 use Rattle.shard_calls.specs.Tablets.{TabletState, Verdict, verdict, after_call, restarts}
 
 -- ---- promotion

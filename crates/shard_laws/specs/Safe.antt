@@ -8,21 +8,25 @@ use Rattle.shard_calls.specs.Promotions.{OnePromotion, PromotesIntended, HoldsTo
 use Rattle.shard_calls.specs.RunLaws.{LogsOnlyGrow, OneEntry, LogsAreClosed, AcksAreHeld, NotedIsHeld, ToldIsAccepted, NotToldIsLate}
 use Rattle.shard_calls.specs.Answered.{AnswersHaveCauses, ActsAreSteps, OutcomesAreSteps}
 use Rattle.shard_laws.specs.Network.{NothingCrossesACut, WhoIsDownHearsNothing}
+use Rattle.shard_laws.specs.Grounded.{PromotesOnGrounds}
 use Rattle.shard_laws.specs.Shown.{ShownBySteps}
 
 -- It is a run of the shard machine, over tablets of one shard.
--- Promotions: each term has at most one, of the tablet that it intended, and a promoted tablet holds everything told in an earlier term.
+-- Promotions: each term has at most one, of the tablet that it intended, and a promoted tablet holds everything told in an earlier term. Who asks for a
+-- promotion has its grounds: none was before, the old primary gave up its place, or every older primary is revoked, as in an emergency.
 -- Logs: they only grow, one transaction is one entry in all of them, and what stands before the row of a term has all that the promoted tablet had.
 -- What is told: it is held by as many tablets as the policy asks for, and what an answer tells is in the log of its tablet for good; that a row is not told
 -- is said only once the moment has come until which the call waits; what a tablet acknowledged, and what a primary noted of it, is in its log.
 -- Messages: none crosses a link that is cut, and none comes to a tablet that is down; what does not come waits.
 -- Answers: each has its cause in what the command did and in what its calls came to, and the steps show both. A promotion that is answered, and a write that
--- is answered as committed, was told by a step; what was written, refused or seen is what a Write or a Begin shows.
+-- is answered as committed, was told by a step; what was written, refused, recorded or seen is what a Write, a Record, a Read or a Begin
+-- shows.
 pub record IsSafe (config : Config) (history : List Step) : Type 0 where
   pub tablets : AreTablets config.tablets
   pub run : IsRun config history
   pub one_promotion : OnePromotion config history
   pub intended : PromotesIntended config history
+  pub promotes_on_grounds : PromotesOnGrounds config history
   pub holds_told : HoldsTold config history
   pub logs_grow : LogsOnlyGrow config history
   pub one_entry : OneEntry config history

@@ -1,12 +1,14 @@
--- What an answer says, as the steps before it show it. Answers are those of PlannedReparentShard, of a write and of a look at a tablet (Vitess manual);
+-- What an answer says, as the steps before it show it. Answers are those of the reparents, of a write and of a look at a tablet or at the shard (Vitess manual);
 -- a client is told of its write once the entry counts as committed (MySQL 8.0 manual, "Semisynchronous Replication").
-use Rattle.std.specs.Prelude.{◌≡◌, ◌<◌, ⊤, ℕ, suc, List, Some, None, slice_get}
+use Rattle.std.specs.Prelude.{◌≡◌, ◌<◌, ⊤, ℕ, suc, List, Some, None, slice_get, map}
 use Rattle.shard_names.specs.declared.alias.Alias.{Alias}
+use Rattle.shard_names.specs.declared.shard_name.ShardName.{ShardName}
 use Rattle.gtid_sets.specs.declared.entry.Entry.{Entry}
 use Rattle.gtid_sets.specs.declared.entry.Kind.TheVariants as kinds
 use Rattle.gtid_sets.specs.declared.gtid.Gtid.{Gtid}
 use Rattle.gtid_sets.specs.Position.{Position}
 use Rattle.gtid_sets.specs.Logs.{position_of}
+use Rattle.topo_lock.specs.declared.intent.Intent.{Intent}
 use Rattle.shard_calls.specs.declared.command.Command.{Command}
 use Rattle.shard_calls.specs.declared.command.Command.TheVariants as commands
 use Rattle.shard_calls.specs.declared.ending.CommandAnswer.{CommandAnswer}
@@ -15,9 +17,12 @@ use Rattle.shard_calls.specs.declared.event.Event.{Event}
 use Rattle.shard_calls.specs.declared.event.Event.TheVariants as events
 use Rattle.shard_calls.specs.declared.event.Reply.{Reply}
 use Rattle.shard_calls.specs.declared.event.Reply.TheVariants as replies
+use Rattle.shard_calls.specs.declared.event.Seen.{Seen}
 use Rattle.shard_calls.specs.declared.event.Step.{Step}
 use Rattle.shard_calls.specs.declared.stand.Standing.{Standing}
 use Rattle.shard_calls.specs.Stands.{standing_of}
+use Rattle.shard_calls.specs.Causes.{row_of}
+use Rattle.shard_calls.specs.Locks.{seen_of}
 use Rattle.shard_calls.specs.World.{Config, World}
 use Rattle.shard_calls.specs.Promotions.{world_at, IsTold}
 
@@ -55,11 +60,24 @@ pub record BeganIn (config : Config) (steps : List Step) (i c : ℕ) (command : 
 abbrev pub StandsSo : Alias → Standing → Position → World → Type 0
 StandsSo a at p w = (standing_of (w.tablets a).stand ≡ at) × (position_of (w.tablets a).log ≡ p)
 
+-- before step i the command read the topology, whose last intent was this one
+abbrev pub HadRead : List Step → ℕ → ℕ → Intent → Type 0
+HadRead steps i c x = (seen : Seen) × HadStep steps i (events.Read c) (replies.Read seen) × (seen.intent ≡ Some x)
+
+-- before step i the command, which began with this tablet, read that the last intent is of this term, and recorded the tablet
+pub record WasRecorded (config : Config) (steps : List Step) (i c t : ℕ) : Type 0 where
+  pub alias : Alias
+  pub began : BeganIn config steps i c (commands.External alias) (λ w. ⊤)
+  pub intent : Intent
+  pub of_term : intent.term ≡ t
+  pub read : HadRead steps i c intent
+  pub recorded : HadStep steps i (events.Record c alias) replies.Ok
+
 -- what the steps before step i show of an answer of command c
 abbrev pub ShownBy : Config → List Step → ℕ → ℕ → CommandAnswer → Type 0
 ShownBy config steps i c (ends.Promoted a t left) = RowWasTold config steps i a t
-ShownBy config steps i c (ends.NothingToDo a) = ⊤
-ShownBy config steps i c (ends.Recorded t) = ⊤
+ShownBy config steps i c (ends.NothingToDo a) = (x : Intent) × HadRead steps i c x × (x.alias ≡ a)
+ShownBy config steps i c (ends.Recorded t) = WasRecorded config steps i c t
 ShownBy config steps i c (ends.Refused refusal tried) = ⊤
 ShownBy config steps i c (ends.Committed g a t) = WriteWasTold config steps i c g a t
 ShownBy config steps i c (ends.NotPrimary a at) = HadStep steps i (events.Write c a) (replies.NotPrimary at)
@@ -67,6 +85,9 @@ ShownBy config steps i c ends.NoPrimaryRecorded = BeganIn config steps i c (comm
 ShownBy config steps i c (ends.Unknown g a t) =
     HadStep steps i (events.Write c a) (replies.Wrote g) × (HadStep steps i (events.Tell c) replies.Told → ⊥)
 ShownBy config steps i c (ends.Shown a at p) = BeganIn config steps i c (commands.Show a) (StandsSo a at p)
+ShownBy config steps i c (ends.Shard shard recorded) = BeganIn config steps i c (commands.GetShard shard) (λ w. w.topo.recorded ≡ recorded)
+ShownBy config steps i c (ends.Tablets rows) =
+    (shard : ShardName) × BeganIn config steps i c (commands.GetTablets shard) (λ w. rows ≡ map (row_of (seen_of w.topo)) config.tablets)
 
 -- each answer of a command is shown by the steps before it
 abbrev pub ShownBySteps : Config → List Step → Type 0

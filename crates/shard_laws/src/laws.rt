@@ -6,6 +6,7 @@ ghost use Rattle.shard_calls.specs.Promotions.{HoldsTold, world_at};
 ghost use Rattle.shard_calls.specs.RunLaws.{OfEveryShard};
 ghost use Rattle.shard_calls.specs.Table.{IsRun, Met, after};
 ghost use Rattle.shard_laws.specs.Examples.{GroundsAreWorked};
+ghost use Rattle.shard_laws.specs.Grounded.{PromotesOnGrounds};
 ghost use Rattle.shard_laws.specs.Safe.{IsSafe};
 ghost use Rattle.shard_laws.specs.TightMoves.{SitesAreShown, WorldMove};
 ghost use Rattle.shard_laws.specs.Traces.{AcksSayTruth, EmergencyIsRevoked, IsTrace, LeaderIsComplete, OfEveryTrace, RowsAreClosed, ToldIsVoted, VotesAreAnswered};
@@ -38,6 +39,11 @@ pub fn told_is_voted()
 /// Where a set of tablets stopped is the evidence, every older primary is revoked for good.
 pub fn emergency_revokes()
     ensures { OfEveryTrace EmergencyIsRevoked }
+{}
+
+/// Who asks for a promotion has its grounds; in an emergency every older primary is then revoked, unless there was none.
+pub fn promotes_on_grounds()
+    ensures { OfEveryShard PromotesOnGrounds }
 {}
 
 /// A promoted tablet has, before the row of its term, every entry that is ever told in an earlier term.

@@ -5,8 +5,8 @@ mod laws;
 mod network;
 
 pub use laws::{
-    emergency_revokes, every_history_is_safe, leader_complete, log_closed, rows_are_moves,
-    sites_are_shown, told_is_voted, votes_answered, worked_grounds,
+    emergency_revokes, every_history_is_safe, leader_complete, log_closed, promotes_on_grounds,
+    rows_are_moves, sites_are_shown, told_is_voted, votes_answered, worked_grounds,
 };
 pub use network::{
     answers_are_shown, cuts_are_as_said, give_up_names_the_first, lapsed_is_free, no_acks_after,
