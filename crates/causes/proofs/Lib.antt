@@ -1,3 +1,4 @@
-pub mod CallLemmas
-pub mod LeavingLemmas
-pub mod TabletLemmas
+pub mod RowLemmas
+pub mod UndoLemmas
+pub mod WritingLemmas
+pub mod EmergencyLemmas

@@ -1,2 +1,3 @@
-pub mod Calls
-pub mod Leaving
+pub mod Undoing
+pub mod Writing
+pub mod Emergency

@@ -1,12 +1,13 @@
-//! Whether a command may end with an answer: the cause of each answer, read off what the command did.
+//! Whether a command may end with an answer: by what it did and what its calls came to.
 #![tactic(auto)]
 
-mod calls;
-mod cause;
-mod equality;
-mod leaving;
-mod refusals;
-mod says;
-mod tablets;
+mod emergency;
+mod external;
+mod opening;
+mod planned;
+mod undoing;
 
-pub use cause::has_cause;
+pub use emergency::has_emergency_cause;
+pub use external::has_external_cause;
+pub use opening::{has_shard_cause, has_show_cause, has_tablets_cause, has_write_cause, row_of};
+pub use planned::has_planned_cause;
