@@ -1,7 +1,12 @@
 -- The examples of courses, by computation. Courses are those of vtctldclient (Vitess manual).
 use Rattle.std.proofs.Common.{refl}
 use Rattle.courses.specs.Promoting.{established, promotes, reparents}
-use Rattle.courses.specs.Planned.{reason_to_follow, reason_among, successor, demotes, catches_up, undone_by, undoes, reparents_all, replaced_by, replaces, reparents_from, reparents_by, planned_course}
+use Rattle.shard_calls.specs.Choosing.{reason_to_follow, reason_among}
+use Rattle.courses.specs.Planned.{successor, demotes, catches_up, undone_by, undoes, reparents_all, replaced_by, replaces, reparents_from, reparents_by, planned_course}
+use Rattle.durability.specs.Counting.{is_unrevoked}
+use Rattle.shard_calls.specs.Rescuing.{fitness, reason_to_rescue}
+use Rattle.courses.specs.Emergency.{stops_all, is_fed, has_all, takes_over, rescues_by, rescues, emergency_course}
+use Rattle.courses.specs.EmergencyExamples.{PrimaryIsReplaced, WinnerFeeds, WaitsForStops, RefusesUnrevoked, RefusesSplit, RefusesStale}
 use Rattle.courses.specs.External.{external_course}
 use Rattle.courses.specs.Writing.{write_course}
 use Rattle.courses.specs.Examples.{FirstReparent, UndoneReparent, WaitsForPromotion, NotUndone, StraysOff, AsksWhoFollows, UndoIsNotTold, ExternalRecords, ExternalIsRefused, WriteIsCommitted, WriteFindsNoPrimary}
@@ -49,3 +54,27 @@ write_is_committed = refl
 pub write_finds_no_primary : WriteFindsNoPrimary
 unfolding write_course
 write_finds_no_primary = refl
+
+pub primary_is_replaced : PrimaryIsReplaced
+unfolding established promotes reparents reason_to_rescue fitness is_unrevoked stops_all is_fed has_all takes_over rescues_by rescues emergency_course
+primary_is_replaced = refl
+
+pub winner_feeds : WinnerFeeds
+unfolding established promotes reparents reason_to_rescue fitness is_unrevoked stops_all is_fed has_all takes_over rescues_by rescues emergency_course
+winner_feeds = refl
+
+pub waits_for_stops : WaitsForStops
+unfolding established promotes reparents reason_to_rescue fitness is_unrevoked stops_all is_fed has_all takes_over rescues_by rescues emergency_course
+waits_for_stops = refl
+
+pub refuses_unrevoked : RefusesUnrevoked
+unfolding established promotes reparents reason_to_rescue fitness is_unrevoked stops_all is_fed has_all takes_over rescues_by rescues emergency_course
+refuses_unrevoked = refl
+
+pub refuses_split : RefusesSplit
+unfolding established promotes reparents reason_to_rescue fitness is_unrevoked stops_all is_fed has_all takes_over rescues_by rescues emergency_course
+refuses_split = refl
+
+pub refuses_stale : RefusesStale
+unfolding established promotes reparents reason_to_rescue fitness is_unrevoked stops_all is_fed has_all takes_over rescues_by rescues emergency_course
+refuses_stale = refl

@@ -1,4 +1,2 @@
 pub mod WalkLemmas
 pub mod ExampleProofs
-pub mod TurnLemmas
-pub mod LookLemmas

@@ -1,9 +1,10 @@
--- The causes of answers, off what a command did and the one table of refusals. After the answers of PlannedReparentShard and
--- TabletExternallyReparented (Vitess manual); a client is told of its write once the entry counts as committed (MySQL 8.0 manual,
+-- The causes of answers, off what a command did and the one table of refusals. After the answers of PlannedReparentShard, EmergencyReparentShard
+-- and TabletExternallyReparented (Vitess manual); a client is told of its write once the entry counts as committed (MySQL 8.0 manual,
 -- semisynchronous replication).
 use Rattle.std.specs.Prelude.{◌≡◌, ℕ, true, false, List, Option, Some, None, Ok, Err}
 use Rattle.std.specs.List.{flat_map}
 use Rattle.shard_names.specs.declared.alias.Alias.{Alias}
+use Rattle.gtid_sets.specs.declared.held.Held.{Held}
 use Rattle.gtid_sets.specs.Position.{Position}
 use Rattle.topo_lock.specs.declared.intent.Intent.{Intent}
 use Rattle.topo_lock.specs.declared.intent.Record.{Record}
@@ -15,23 +16,26 @@ use Rattle.shard_calls.specs.declared.event.Seen.{Seen}
 use Rattle.shard_calls.specs.declared.refusal.Refusal.{Refusal}
 use Rattle.shard_calls.specs.declared.stand.Stand.{Stand}
 use Rattle.shard_calls.specs.declared.stand.Standing.{Standing}
-use Rattle.courses.specs.declared.call.Kind.{Kind}
-use Rattle.courses.specs.declared.call.Kind.TheVariants as kinds
-use Rattle.courses.specs.declared.command.Group.{Group}
-use Rattle.courses.specs.declared.command.PlannedOptions.{PlannedOptions}
-use Rattle.courses.specs.declared.span.Deed.{Deed}
-use Rattle.courses.specs.declared.span.Deed.TheVariants as deeds
-use Rattle.courses.specs.declared.span.Transaction.{Transaction}
-use Rattle.courses.specs.Refusals.{or_else, recorded_alias, is_of_promotion, refusal_of_undeclared, refusal_of_planned, refusal_by_seen, refusal_by_demoted, refusal_of_crossing}
-use Rattle.courses.specs.Promoting.{not_joined, others_than}
-use Rattle.courses.specs.Planned.{candidates, first_of, follower, is_idle}
-use Rattle.courses.specs.External.{term_of_promoted}
+use Rattle.shard_calls.specs.declared.span.Kind.{Kind}
+use Rattle.shard_calls.specs.declared.span.Kind.TheVariants as kinds
+use Rattle.shard_calls.specs.declared.group.Group.{Group}
+use Rattle.shard_calls.specs.declared.command.EmergencyOptions.{EmergencyOptions}
+use Rattle.shard_calls.specs.declared.command.PlannedOptions.{PlannedOptions}
+use Rattle.shard_calls.specs.declared.span.Deed.{Deed}
+use Rattle.shard_calls.specs.declared.span.Deed.TheVariants as deeds
+use Rattle.shard_calls.specs.declared.span.Transaction.{Transaction}
+use Rattle.shard_calls.specs.Refusals.{or_else, recorded_alias, is_of_promotion, refusal_of_undeclared, refusal_of_emergency, refusal_of_planned, refusal_by_seen, refusal_by_demoted, refusal_of_crossing, term_of_promoted}
+use Rattle.shard_calls.specs.Causes.{is_idle, not_joined}
+use Rattle.shard_calls.specs.Choosing.{candidates, first_of, follower}
+use Rattle.shard_calls.specs.Rescuing.{first_by, heeded, helds, refusal_of_unrevoked, rescuer, stale_in, winner_of}
+use Rattle.courses.specs.Emergency.{others_of}
+use Rattle.courses.specs.Promoting.{others_than}
 use Rattle.courses.specs.Sound.{IsIn, IsTaken, IsRead, IsRecorded, IsWritten, IsSaid, IsRefusedCall, AreCalled, IsBarred}
 
 -- ---- reparents
 
 -- a tablet was promoted in the term that the command took, and recorded, and its promotion counts as committed; those did not join that answered
--- so, of all others
+-- so, of these others
 pub data IsPromoted (span : List Deed) (others : Alias → List Alias) : CommandAnswer → Type 0 where
   Established : (c : Alias) (u : ℕ) (p : Position) (done : List Deed) → IsTaken span u
       → IsSaid span c kinds.Promote (says.Promoted p) → IsRecorded span c
@@ -76,6 +80,34 @@ pub data PlannedEnds (g : Group) (o : PlannedOptions) (span : List Deed) : Comma
       → IsSaid span i.alias kinds.Promote (says.Promoted p) → PlannedEnds g o span (endings.Refused r (Some true))
   NotUndone : (seen : Seen) (i : Intent) (c : Alias) (r failed : Refusal) → IsRead span seen → seen.intent ≡ Some i → CannotCatchUp span c r
       → CannotPromote span i.alias failed → PlannedEnds g o span (endings.Refused r (Some false))
+
+-- ---- an emergency
+
+-- why a tablet that is to take over does not come to have what the winner has
+pub data CannotFeed (span : List Deed) (w c : Alias) (r : Refusal) : Type 0 where
+  ByFeed : IsRefusedCall span w kinds.Feed r → CannotFeed span w c r
+  ByJoining : IsRefusedCall span c kinds.SetSource r → CannotFeed span w c r
+  ByHolding : IsRefusedCall span c kinds.WaitFor r → CannotFeed span w c r
+
+-- why an EmergencyReparentShard is refused
+pub data EmergencyIsRefused (g : Group) (o : EmergencyOptions) (span : List Deed) (r : Refusal) : Type 0 where
+  AtOnce : refusal_of_emergency g o ≡ Some r → EmergencyIsRefused g o span r
+  ByTopology : IsBarred span r → EmergencyIsRefused g o span r
+  BySeen : (seen : Seen) → IsRead span seen → refusal_by_seen o.expected o.new_primary seen ≡ Some r → EmergencyIsRefused g o span r
+  IsStale : (done : List Deed) → AreCalled span (heeded g o.ignored) kinds.Stop done → first_by stale_in done ≡ Some r → EmergencyIsRefused g o span r
+  NotRevoked : (done : List Deed) → AreCalled span (heeded g o.ignored) kinds.Stop done → refusal_of_unrevoked g o.ignored done ≡ Some r
+      → EmergencyIsRefused g o span r
+  NoWinner : (seen : Seen) (done : List Deed) → IsRead span seen → AreCalled span (heeded g o.ignored) kinds.Stop done
+      → winner_of g o seen done ≡ Err r → EmergencyIsRefused g o span r
+  NoRescuer : (seen : Seen) (done : List Deed) (w : Held) → IsRead span seen → AreCalled span (heeded g o.ignored) kinds.Stop done
+      → winner_of g o seen done ≡ Ok w → rescuer g o seen done w o.new_primary ≡ Err r → EmergencyIsRefused g o span r
+  NotFed : (w c : Alias) → CannotFeed span w c r → EmergencyIsRefused g o span r
+  ByPromotion : (c : Alias) (kind : Kind) → is_of_promotion kind ≡ true → IsRefusedCall span c kind r → EmergencyIsRefused g o span r
+
+-- what it ends with: a tablet was promoted, and those were to join it that stopped
+pub data EmergencyEnds (g : Group) (o : EmergencyOptions) (span : List Deed) (x : CommandAnswer) : Type 0 where
+  Rescues : (done : List Deed) → AreCalled span (heeded g o.ignored) kinds.Stop done → IsPromoted span (λ c. others_of c (helds done)) x
+      → EmergencyEnds g o span x
 
 -- ---- promotions by other hands
 

@@ -11,29 +11,29 @@ use Rattle.topo_lock.specs.declared.intent.Intent.{Intent}
 use Rattle.shard_calls.specs.declared.answer.Answer.{Answer}
 use Rattle.shard_calls.specs.declared.answer.Answer.TheVariants as says
 use Rattle.shard_calls.specs.declared.call.Call.TheVariants as calls
-use Rattle.courses.specs.declared.call.Kind.{Kind}
-use Rattle.courses.specs.declared.call.Kind.TheVariants as kinds
-use Rattle.courses.specs.declared.call.Outcome.{Outcome}
-use Rattle.courses.specs.declared.call.Outcome.TheVariants as outcomes
+use Rattle.shard_calls.specs.declared.span.Kind.{Kind}
+use Rattle.shard_calls.specs.declared.span.Kind.TheVariants as kinds
+use Rattle.shard_calls.specs.declared.span.Outcome.{Outcome}
+use Rattle.shard_calls.specs.declared.span.Outcome.TheVariants as outcomes
 use Rattle.shard_calls.specs.declared.stand.Stand.TheVariants as stands
 use Rattle.shard_calls.specs.declared.why.Why.TheVariants as whys
 use Rattle.shard_calls.specs.declared.ending.CommandAnswer.{CommandAnswer}
 use Rattle.shard_calls.specs.declared.ending.CommandAnswer.TheVariants as endings
-use Rattle.courses.specs.declared.command.Group.{Group}
+use Rattle.shard_calls.specs.declared.group.Group.{Group}
 use Rattle.shard_calls.specs.declared.ending.Left.TheVariants as lefts
-use Rattle.courses.specs.declared.command.PlannedOptions.{PlannedOptions}
+use Rattle.shard_calls.specs.declared.command.PlannedOptions.{PlannedOptions}
 use Rattle.shard_calls.specs.declared.refusal.Refusal.TheVariants as refusals
-use Rattle.courses.specs.declared.span.Deed.{Deed}
-use Rattle.courses.specs.declared.span.Deed.TheVariants as deeds
-use Rattle.courses.specs.declared.span.Transaction.{Transaction}
-use Rattle.courses.specs.declared.span.Want.TheVariants as wants
+use Rattle.shard_calls.specs.declared.span.Deed.{Deed}
+use Rattle.shard_calls.specs.declared.span.Deed.TheVariants as deeds
+use Rattle.shard_calls.specs.declared.span.Transaction.{Transaction}
+use Rattle.courses.specs.declared.want.Want.TheVariants as wants
 use Rattle.courses.specs.Walks.{Course}
 use Rattle.courses.specs.Planned.{planned_course}
 use Rattle.courses.specs.External.{external_course}
 use Rattle.courses.specs.Writing.{write_course}
 use Rattle.courses.specs.Course.{demand}
-use Rattle.courses.specs.declared.turn.Demand.{Demand}
-use Rattle.courses.specs.declared.turn.Demand.TheVariants.{Does, Awaits, Leaves}
+use Rattle.courses.specs.declared.demands.Demand.{Demand}
+use Rattle.courses.specs.declared.demands.Demand.TheVariants.{Does, Awaits, Leaves}
 
 -- ---- three replicas
 
@@ -70,13 +70,13 @@ abbrev pub seen_of : Option Intent → Deed
 seen_of i = deeds.Read (Ok (record { recorded = None; intent = i; drained = [] }))
 
 abbrev pub came : Kind → Alias → Outcome → Deed
-came kind a o = deeds.Asked (record { alias = a; kind = kind; message = 1; sent = 7; arrived = 9; outcome = Some o })
+came kind a o = deeds.Asked (record { alias = a; kind = kind; message = 1; term = 2; sent = 7; arrived = 9; outcome = Some o })
 
 abbrev pub said : Kind → Alias → Answer → Deed
 said kind a answer = came kind a (outcomes.Answered answer)
 
 abbrev pub out : Kind → Alias → Deed
-out kind a = deeds.Asked (record { alias = a; kind = kind; message = 1; sent = 7; arrived = 9; outcome = None })
+out kind a = deeds.Asked (record { alias = a; kind = kind; message = 1; term = 2; sent = 7; arrived = 9; outcome = None })
 
 -- what is demanded after each of the deeds, from so many on
 abbrev pub demands_from : ℕ → ℕ → Course CommandAnswer → List Deed → List Demand

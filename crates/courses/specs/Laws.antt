@@ -1,13 +1,13 @@
 -- What a course promises: once it does not wait, what comes of calls later changes nothing of what it demands. Courses are those of vtctldclient
 -- (Vitess manual).
 use Rattle.std.specs.Prelude.{◌≡◌, ℕ, Bool, true, false, List, map, Option, Result, Ok, Err}
-use Rattle.courses.specs.declared.call.Outcome.{Outcome}
-use Rattle.courses.specs.declared.span.Asked.{Asked}
-use Rattle.courses.specs.declared.span.Deed.{Deed}
-use Rattle.courses.specs.declared.span.Deed.TheVariants as deeds
-use Rattle.courses.specs.declared.span.Exit.{Exit}
-use Rattle.courses.specs.declared.span.Exit.TheVariants as exits
-use Rattle.courses.specs.Refusals.{or_else}
+use Rattle.shard_calls.specs.declared.span.Outcome.{Outcome}
+use Rattle.shard_calls.specs.declared.span.Asked.{Asked}
+use Rattle.shard_calls.specs.declared.span.Deed.{Deed}
+use Rattle.shard_calls.specs.declared.span.Deed.TheVariants as deeds
+use Rattle.courses.specs.declared.want.Exit.{Exit}
+use Rattle.courses.specs.declared.want.Exit.TheVariants as exits
+use Rattle.shard_calls.specs.Refusals.{or_else}
 use Rattle.courses.specs.Walks.{Course, walked}
 
 -- what calls have come to since, by their numbers
@@ -24,7 +24,6 @@ settle h (deeds.Took reply) = deeds.Took reply
 settle h (deeds.Read reply) = deeds.Read reply
 settle h (deeds.Intended a reply) = deeds.Intended a reply
 settle h (deeds.Recorded a reply) = deeds.Recorded a reply
-settle h (deeds.Drained a reply) = deeds.Drained a reply
 settle h (deeds.Wrote a reply) = deeds.Wrote a reply
 settle h (deeds.Told committed) = deeds.Told committed
 

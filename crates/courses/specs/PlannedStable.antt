@@ -7,14 +7,16 @@ use Rattle.topo_lock.specs.declared.intent.Intent.{Intent}
 use Rattle.std.specs.List.{flat_map}
 use Rattle.shard_calls.specs.declared.call.Call.TheVariants as calls
 use Rattle.shard_calls.specs.declared.ending.CommandAnswer.TheVariants as endings
-use Rattle.courses.specs.declared.command.Group.{Group}
-use Rattle.courses.specs.declared.command.PlannedOptions.{PlannedOptions}
+use Rattle.shard_calls.specs.declared.group.Group.{Group}
+use Rattle.shard_calls.specs.declared.command.PlannedOptions.{PlannedOptions}
 use Rattle.shard_calls.specs.declared.refusal.Refusal.{Refusal}
 use Rattle.shard_calls.specs.declared.event.Seen.{Seen}
-use Rattle.courses.specs.Promoting.{established, promotes, reparents, others_than, not_joined, promoted_position, told_so}
-use Rattle.courses.specs.Refusals.{refusal_of_crossing, refusal_by_demoted, refusal_of_planned, refusal_by_seen}
+use Rattle.shard_calls.specs.Causes.{is_idle, not_joined}
+use Rattle.shard_calls.specs.Choosing.{candidates, follower}
+use Rattle.courses.specs.Promoting.{established, promotes, reparents, others_than, promoted_position, told_so}
+use Rattle.shard_calls.specs.Refusals.{refusal_of_crossing, refusal_by_demoted, refusal_of_planned, refusal_by_seen}
 use Rattle.courses.specs.Walks.{refusing, or_refusing}
-use Rattle.courses.specs.Planned.{candidates, follower, first_primary, successor, demoted_position, following, holding, demotes, catches_up, undone_by, undoes, reparents_all, replaced_by, replaces, is_idle, reparents_from, reparents_by, planned_course}
+use Rattle.courses.specs.Planned.{first_primary, successor, demoted_position, following, holding, demotes, catches_up, undone_by, undoes, reparents_all, replaced_by, replaces, reparents_from, reparents_by, planned_course}
 use Rattle.courses.specs.Laws.{IsStable}
 use Rattle.courses.specs.Stable.{pure_stable, bind_stable, then_stable, if_stable, tried_stable, takes_stable, reads_stable, intends_stable, records_stable, needs_stable, calls_stable}
 

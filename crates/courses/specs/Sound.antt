@@ -1,32 +1,35 @@
 -- What a course promises of what it demands and of what it ends with: it asks a tablet to be the primary only on a ground that its span shows,
 -- and each answer has its cause there, by the one table of refusals. After the promotion rules of PlannedReparentShard (Vitess manual).
-use Rattle.std.specs.Prelude.{◌≡◌, ℕ, Bool, true, false, ◌&&◌, ◌==◌, List, [], ◌∷◌, ◌++◌, Option, Some, None, Result, Ok, Err, ⊤}
+use Rattle.std.specs.Prelude.{◌≡◌, ℕ, Bool, true, false, ◌&&◌, ◌==◌, List, [], ◌∷◌, ◌++◌, Some, None, Result, Ok, Err, ⊤}
 use Rattle.std.specs.List.{list_any}
 use Rattle.shard_names.specs.declared.alias.Alias.{Alias}
 use Rattle.shard_names.specs.Tablets.{alias_eq}
 use Rattle.gtid_sets.specs.Position.{Position, nothing}
+use Rattle.gtid_sets.specs.declared.held.Held.{Held}
+use Rattle.gtid_sets.specs.Winner.{winner}
 use Rattle.topo_lock.specs.declared.intent.Intent.{Intent}
 use Rattle.shard_calls.specs.declared.answer.Answer.{Answer}
 use Rattle.shard_calls.specs.declared.answer.Answer.TheVariants as says
 use Rattle.shard_calls.specs.declared.call.Call.{Call}
 use Rattle.shard_calls.specs.declared.call.Call.TheVariants as calls
 use Rattle.shard_calls.specs.declared.event.Seen.{Seen}
+use Rattle.shard_calls.specs.declared.group.Group.{Group}
 use Rattle.shard_calls.specs.declared.refusal.Refusal.{Refusal}
-use Rattle.shard_calls.specs.declared.refusal.Refusal.TheVariants as refusals
 use Rattle.shard_calls.specs.declared.stand.Standing.{Standing}
-use Rattle.courses.specs.declared.call.Kind.{Kind}
-use Rattle.courses.specs.declared.call.Kind.TheVariants as kinds
-use Rattle.courses.specs.declared.call.Outcome.{Outcome}
-use Rattle.courses.specs.declared.call.Outcome.TheVariants as outcomes
-use Rattle.courses.specs.declared.span.Asked.{Asked}
-use Rattle.courses.specs.declared.span.Deed.{Deed}
-use Rattle.courses.specs.declared.span.Deed.TheVariants as deeds
-use Rattle.courses.specs.declared.span.Exit.{Exit}
-use Rattle.courses.specs.declared.span.Exit.TheVariants as exits
-use Rattle.courses.specs.declared.span.Transaction.{Transaction}
-use Rattle.courses.specs.declared.span.Want.{Want}
-use Rattle.courses.specs.declared.span.Want.TheVariants as wants
-use Rattle.courses.specs.Refusals.{refusal_after}
+use Rattle.shard_calls.specs.declared.span.Kind.{Kind}
+use Rattle.shard_calls.specs.declared.span.Kind.TheVariants as kinds
+use Rattle.shard_calls.specs.declared.span.Outcome.{Outcome}
+use Rattle.shard_calls.specs.declared.span.Outcome.TheVariants as outcomes
+use Rattle.shard_calls.specs.declared.span.Asked.{Asked}
+use Rattle.shard_calls.specs.declared.span.Deed.{Deed}
+use Rattle.shard_calls.specs.declared.span.Deed.TheVariants as deeds
+use Rattle.courses.specs.declared.want.Exit.{Exit}
+use Rattle.courses.specs.declared.want.Exit.TheVariants as exits
+use Rattle.shard_calls.specs.declared.span.Transaction.{Transaction}
+use Rattle.courses.specs.declared.want.Want.{Want}
+use Rattle.courses.specs.declared.want.Want.TheVariants as wants
+use Rattle.shard_calls.specs.Refusals.{refusal_after, refusal_by_topology}
+use Rattle.shard_calls.specs.Rescuing.{first_unrevoked, helds, reached_by}
 use Rattle.courses.specs.Walks.{Course, is_ask, is_out}
 
 -- ---- what a span shows
@@ -102,15 +105,6 @@ pub record AreCalled (span : List Deed) (them : List Alias) (kind : Kind) (done 
   pub are : are_calls them kind done ≡ true
   pub settled : list_any is_out done ≡ false
 
--- what the topology refused
-abbrev pub refusal_by_topology : Deed → Option Refusal
-refusal_by_topology (deeds.Took (Err held)) = Some (refusals.LockTaken held.term held.actor)
-refusal_by_topology (deeds.Read (Err t)) = Some (refusals.LockLost t)
-refusal_by_topology (deeds.Intended a (Err t)) = Some (refusals.LockLost t)
-refusal_by_topology (deeds.Recorded a (Err t)) = Some (refusals.LockLost t)
-refusal_by_topology (deeds.Drained a (Err t)) = Some (refusals.LockLost t)
-refusal_by_topology _ = None
-
 -- the topology refused the command
 pub record IsBarred (span : List Deed) (r : Refusal) : Type 0 where
   pub deed : Deed
@@ -119,35 +113,38 @@ pub record IsBarred (span : List Deed) (r : Refusal) : Type 0 where
 
 -- ---- evidence
 
--- the ground on which a tablet that is promoted has to have this position: no term intends anything before, or the tablet of the last intent
--- was demoted, has that term's row and nothing newer, and has this
-pub data Ground (span : List Deed) (p : Position) : Type 0 where
-  First : (seen : Seen) → IsRead span seen → seen.intent ≡ None → p ≡ nothing → Ground span p
+-- The ground on which a tablet that is promoted has to have this position: no term intends anything before; or the tablet of the last intent
+-- was demoted, has that term's row and nothing newer, and has this; or tablets were called to stop, those that did revoke every tablet of the
+-- group that may be promoted, and the one that is ahead of them has this.
+pub data Ground (g : Group) (span : List Deed) (p : Position) : Type 0 where
+  First : (seen : Seen) → IsRead span seen → seen.intent ≡ None → p ≡ nothing → Ground g span p
   Demoted : (seen : Seen) (i : Intent) (newest : ℕ) → IsRead span seen → seen.intent ≡ Some i
-      → IsSaid span i.alias kinds.Demote (says.Demoted newest p) → (newest == i.term) ≡ true → Ground span p
+      → IsSaid span i.alias kinds.Demote (says.Demoted newest p) → (newest == i.term) ≡ true → Ground g span p
+  Stopped : (them : List Alias) (done : List Deed) (w : Held) → AreCalled span them kinds.Stop done
+      → first_unrevoked g (reached_by (helds done)) ≡ None → winner (helds done) ≡ Some w → p ≡ w.position → Ground g span p
 
-pub record Evidence (span : List Deed) (c : Alias) (p : Position) : Type 0 where
+pub record Evidence (g : Group) (span : List Deed) (c : Alias) (p : Position) : Type 0 where
   pub intended : IsIntended span c
-  pub basis : Ground span p
+  pub basis : Ground g span p
 
-abbrev pub CallIsFounded : List Deed → Alias → Call → Type 0
-CallIsFounded span c (calls.Promote p) = Evidence span c p
-CallIsFounded span c _ = ⊤
+abbrev pub CallIsFounded : Group → List Deed → Alias → Call → Type 0
+CallIsFounded g span c (calls.Promote p) = Evidence g span c p
+CallIsFounded g span c _ = ⊤
 
-abbrev pub IsFounded : List Deed → Want → Type 0
-IsFounded span (wants.Ask c call) = CallIsFounded span c call
-IsFounded span _ = ⊤
+abbrev pub IsFounded : Group → List Deed → Want → Type 0
+IsFounded g span (wants.Ask c call) = CallIsFounded g span c call
+IsFounded g span _ = ⊤
 
 -- ---- soundness
 
 -- how far a course comes along the end of a span: what it demands is founded, R holds of its refusal, and Q of what it gives
-abbrev pub Comes : {A : Type 0} → List Deed → (Refusal → Type 0) → (A → Type 0) → Result A Exit → List Deed → Type 0
-Comes span R Q (Ok x) rest = IsEnd span rest × Q x
-Comes span R Q (Err (exits.Does want)) rest = IsFounded span want
-Comes span R Q (Err (exits.Refused r)) rest = IsEnd span rest × R r
-Comes span R Q (Err exits.Waits) rest = ⊤
-Comes span R Q (Err exits.Strays) rest = ⊤
-Comes span R Q (Err exits.OutOfMemory) rest = ⊤
+abbrev pub Comes : {A : Type 0} → Group → List Deed → (Refusal → Type 0) → (A → Type 0) → Result A Exit → List Deed → Type 0
+Comes g span R Q (Ok x) rest = IsEnd span rest × Q x
+Comes g span R Q (Err (exits.Does want)) rest = IsFounded g span want
+Comes g span R Q (Err (exits.Refused r)) rest = IsEnd span rest × R r
+Comes g span R Q (Err exits.Waits) rest = ⊤
+Comes g span R Q (Err exits.Strays) rest = ⊤
+Comes g span R Q (Err exits.OutOfMemory) rest = ⊤
 
-abbrev pub IsSound : {A : Type 0} → List Deed → (Refusal → Type 0) → Course A → (A → Type 0) → Type 0
-IsSound span R m Q = (rest : List Deed) → IsEnd span rest → Comes span R Q (m rest).came (m rest).rest
+abbrev pub IsSound : {A : Type 0} → Group → List Deed → (Refusal → Type 0) → Course A → (A → Type 0) → Type 0
+IsSound g span R m Q = (rest : List Deed) → IsEnd span rest → Comes g span R Q (m rest).came (m rest).rest

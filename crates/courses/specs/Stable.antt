@@ -3,17 +3,17 @@ use Rattle.std.proofs.Common.{◌≡◌, refl, ap, ◌∙◌, ℕ, zero, suc, Bo
 use Rattle.std.specs.List.{list_any}
 use Rattle.shard_names.specs.declared.alias.Alias.{Alias}
 use Rattle.shard_calls.specs.declared.call.Call.{Call}
-use Rattle.courses.specs.declared.call.Kind.{Kind}
-use Rattle.courses.specs.declared.call.Outcome.{Outcome}
-use Rattle.courses.specs.declared.span.Asked.{Asked}
-use Rattle.courses.specs.declared.span.Deed.{Deed}
-use Rattle.courses.specs.declared.span.Deed.TheVariants as deeds
-use Rattle.courses.specs.declared.span.Exit.{Exit}
-use Rattle.courses.specs.declared.span.Exit.TheVariants as exits
-use Rattle.courses.specs.declared.span.Want.{Want}
-use Rattle.courses.specs.Kinds.{kind_of}
+use Rattle.shard_calls.specs.declared.span.Kind.{Kind}
+use Rattle.shard_calls.specs.declared.span.Outcome.{Outcome}
+use Rattle.shard_calls.specs.declared.span.Asked.{Asked}
+use Rattle.shard_calls.specs.declared.span.Deed.{Deed}
+use Rattle.shard_calls.specs.declared.span.Deed.TheVariants as deeds
+use Rattle.courses.specs.declared.want.Exit.{Exit}
+use Rattle.courses.specs.declared.want.Exit.TheVariants as exits
+use Rattle.courses.specs.declared.want.Want.{Want}
+use Rattle.shard_calls.specs.Kinds.{kind_of}
 use Rattle.courses.specs.Walks.{Course, Walked, walked, goes_on, ◌>>=◌, ◌>>◌, next, took, read, intended, recorded, wrote, told, takes_lock, reads, intends, records, writes, tells, tried, trying, needs, settling, needing, called_all, calling, asks_all, is_out, all_settled, calls_all, is_ask}
-use Rattle.courses.specs.Refusals.{refusal_after}
+use Rattle.shard_calls.specs.Refusals.{refusal_after}
 use Rattle.shard_calls.specs.declared.answer.Answer.{Answer}
 use Rattle.courses.specs.Laws.{News, settle, settle_asked, is_waiting, IsStable}
 

@@ -7,23 +7,23 @@ use Rattle.shard_names.specs.declared.alias.Alias.{Alias}
 use Rattle.shard_names.specs.Tablets.{alias_eq}
 use Rattle.shard_calls.specs.declared.answer.Answer.{Answer}
 use Rattle.shard_calls.specs.declared.call.Call.{Call}
-use Rattle.courses.specs.declared.call.Kind.{Kind}
-use Rattle.courses.specs.declared.call.Outcome.{Outcome}
-use Rattle.courses.specs.declared.call.Outcome.TheVariants as outcomes
+use Rattle.shard_calls.specs.declared.span.Kind.{Kind}
+use Rattle.shard_calls.specs.declared.span.Outcome.{Outcome}
+use Rattle.shard_calls.specs.declared.span.Outcome.TheVariants as outcomes
 use Rattle.shard_calls.specs.declared.stand.Standing.{Standing}
 use Rattle.shard_calls.specs.declared.refusal.Refusal.{Refusal}
 use Rattle.shard_calls.specs.declared.refusal.Refusal.TheVariants as refusals
-use Rattle.courses.specs.declared.span.Asked.{Asked}
-use Rattle.courses.specs.declared.span.Deed.{Deed}
-use Rattle.courses.specs.declared.span.Deed.TheVariants as deeds
-use Rattle.courses.specs.declared.span.Exit.{Exit}
-use Rattle.courses.specs.declared.span.Exit.TheVariants as exits
+use Rattle.shard_calls.specs.declared.span.Asked.{Asked}
+use Rattle.shard_calls.specs.declared.span.Deed.{Deed}
+use Rattle.shard_calls.specs.declared.span.Deed.TheVariants as deeds
+use Rattle.courses.specs.declared.want.Exit.{Exit}
+use Rattle.courses.specs.declared.want.Exit.TheVariants as exits
 use Rattle.shard_calls.specs.declared.event.Seen.{Seen}
-use Rattle.courses.specs.declared.span.Want.{Want}
-use Rattle.courses.specs.declared.span.Want.TheVariants as wants
-use Rattle.courses.specs.declared.span.Transaction.{Transaction}
-use Rattle.courses.specs.Kinds.{kind_of, kind_eq}
-use Rattle.courses.specs.Refusals.{refusal_after}
+use Rattle.courses.specs.declared.want.Want.{Want}
+use Rattle.courses.specs.declared.want.Want.TheVariants as wants
+use Rattle.shard_calls.specs.declared.span.Transaction.{Transaction}
+use Rattle.shard_calls.specs.Kinds.{kind_of, kind_eq}
+use Rattle.shard_calls.specs.Refusals.{refusal_after}
 
 -- how far a course has come: what it gives, or where it stops, and the deeds that are left
 pub record Walked (A : Type 0) : Type 0 where
@@ -137,13 +137,6 @@ recorded a _ = strays
 
 abbrev pub records : Alias → Course (Unit {0})
 records a = next (wants.Record a) >>= λ deed. walked (recorded a deed)
-
-abbrev pub drained : Alias → Deed → Result (Unit {0}) Exit
-drained a (deeds.Drained b reply) = if alias_eq b a then keeping_lock reply else strays
-drained a _ = strays
-
-abbrev pub drains : Alias → Course (Unit {0})
-drains a = next (wants.Drain a) >>= λ deed. walked (drained a deed)
 
 abbrev pub wrote : Alias → Deed → Result (Result Transaction Standing) Exit
 wrote a (deeds.Wrote b reply) = if alias_eq b a then Ok reply else strays

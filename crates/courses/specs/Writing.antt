@@ -7,8 +7,8 @@ use Rattle.topo_lock.specs.declared.intent.Record.{Record}
 use Rattle.shard_calls.specs.declared.stand.Standing.{Standing}
 use Rattle.shard_calls.specs.declared.ending.CommandAnswer.{CommandAnswer}
 use Rattle.shard_calls.specs.declared.ending.CommandAnswer.TheVariants as endings
-use Rattle.courses.specs.declared.span.Transaction.{Transaction}
-use Rattle.courses.specs.Refusals.{or_else, recorded_alias}
+use Rattle.shard_calls.specs.declared.span.Transaction.{Transaction}
+use Rattle.shard_calls.specs.Refusals.{or_else, recorded_alias}
 use Rattle.courses.specs.Walks.{Course, gives, ◌>>=◌, writes, tells}
 
 abbrev pub told_by : Alias → Transaction → Bool → CommandAnswer

@@ -5,12 +5,13 @@ use Rattle.shard_names.specs.declared.alias.Alias.{Alias}
 use Rattle.gtid_sets.specs.Position.{Position}
 use Rattle.topo_lock.specs.declared.intent.Record.{Record}
 use Rattle.shard_calls.specs.declared.ending.CommandAnswer.TheVariants as endings
+use Rattle.shard_calls.specs.declared.group.Group.{Group}
 use Rattle.shard_calls.specs.declared.refusal.Refusal.{Refusal}
 use Rattle.shard_calls.specs.declared.stand.Standing.{Standing}
-use Rattle.courses.specs.declared.span.Deed.{Deed}
-use Rattle.courses.specs.declared.span.Deed.TheVariants as deeds
-use Rattle.courses.specs.declared.span.Transaction.{Transaction}
-use Rattle.courses.specs.Refusals.{or_else, recorded_alias}
+use Rattle.shard_calls.specs.declared.span.Deed.{Deed}
+use Rattle.shard_calls.specs.declared.span.Deed.TheVariants as deeds
+use Rattle.shard_calls.specs.declared.span.Transaction.{Transaction}
+use Rattle.shard_calls.specs.Refusals.{or_else, recorded_alias}
 use Rattle.courses.specs.Writing.{told_by, written_by, writes_at, write_course, shown_by, show_course}
 use Rattle.courses.specs.Laws.{IsStable}
 use Rattle.courses.specs.Stable.{pure_stable, bind_stable, writes_stable, tells_stable}
@@ -42,29 +43,29 @@ told_ends : (to : Option Alias) (recorded : Option Record) (span : List Deed) (a
 told_ends to recorded span a x true at written told = Committed a x at written told
 told_ends to recorded span a x false at written told = Unknown a x at written told
 
-written_sound : (to : Option Alias) (recorded : Option Record) (span : List Deed) (a : Alias) (reply : Result Transaction Standing)
-    → or_else to (recorded_alias recorded) ≡ Some a → IsWritten span a reply → IsSound span Never (written_by a reply) (WriteEnds to recorded span)
-written_sound to recorded span a (Err stand) at written = gives_sound span Never (WriteEnds to recorded span) (endings.NotPrimary a stand) (NotPrimary a stand at written)
-written_sound to recorded span a (Ok x) at written =
-    bind_sound span Never (λ committed. IsIn span (deeds.Told committed)) (WriteEnds to recorded span) _ _ (tells_sound span Never)
-    (λ committed told. gives_sound span Never (WriteEnds to recorded span) (told_by a x committed) (told_ends to recorded span a x committed at written told))
+written_sound : (to : Option Alias) (recorded : Option Record) (g : Group) (span : List Deed) (a : Alias) (reply : Result Transaction Standing)
+    → or_else to (recorded_alias recorded) ≡ Some a → IsWritten span a reply → IsSound g span Never (written_by a reply) (WriteEnds to recorded span)
+written_sound to recorded g span a (Err stand) at written = gives_sound g span Never (WriteEnds to recorded span) (endings.NotPrimary a stand) (NotPrimary a stand at written)
+written_sound to recorded g span a (Ok x) at written =
+    bind_sound g span Never (λ committed. IsIn span (deeds.Told committed)) (WriteEnds to recorded span) _ _ (tells_sound g span Never)
+    (λ committed told. gives_sound g span Never (WriteEnds to recorded span) (told_by a x committed) (told_ends to recorded span a x committed at written told))
 
 nowhere : (to : Option Alias) (other : Option Alias) → or_else to other ≡ None → (to ≡ None) × (other ≡ None)
 nowhere None other none = (refl, none)
 nowhere (Some a) other none = absurd (let no_way : Some a ≡ None = none in cc)
 
-at_sound : (to : Option Alias) (recorded : Option Record) (span : List Deed) (place : Option Alias) → or_else to (recorded_alias recorded) ≡ place
-    → IsSound span Never (writes_at place) (WriteEnds to recorded span)
-at_sound to recorded span None at =
-    let both = nowhere to (recorded_alias recorded) at in gives_sound span Never (WriteEnds to recorded span) endings.NoPrimaryRecorded (Nowhere both.0 both.1)
-at_sound to recorded span (Some a) at =
-    bind_sound span Never (λ reply. IsWritten span a reply) (WriteEnds to recorded span) _ _ (writes_sound span Never a)
-    (λ reply written. written_sound to recorded span a reply at written)
+at_sound : (to : Option Alias) (recorded : Option Record) (g : Group) (span : List Deed) (place : Option Alias) → or_else to (recorded_alias recorded) ≡ place
+    → IsSound g span Never (writes_at place) (WriteEnds to recorded span)
+at_sound to recorded g span None at =
+    let both = nowhere to (recorded_alias recorded) at in gives_sound g span Never (WriteEnds to recorded span) endings.NoPrimaryRecorded (Nowhere both.0 both.1)
+at_sound to recorded g span (Some a) at =
+    bind_sound g span Never (λ reply. IsWritten span a reply) (WriteEnds to recorded span) _ _ (writes_sound g span Never a)
+    (λ reply written. written_sound to recorded g span a reply at written)
 
-pub write_sound : (to : Option Alias) (recorded : Option Record) (span : List Deed) → IsSound span Never (write_course to recorded) (WriteEnds to recorded span)
+pub write_sound : (to : Option Alias) (recorded : Option Record) (g : Group) (span : List Deed) → IsSound g span Never (write_course to recorded) (WriteEnds to recorded span)
 unfolding write_course
-write_sound to recorded span = at_sound to recorded span (or_else to (recorded_alias recorded)) refl
+write_sound to recorded g span = at_sound to recorded g span (or_else to (recorded_alias recorded)) refl
 
-pub show_sound : (a : Alias) (stand : Standing) (p : Position) (span : List Deed) → IsSound span Never (show_course a stand p) (λ x. x ≡ shown_by a stand p)
+pub show_sound : (a : Alias) (stand : Standing) (p : Position) (g : Group) (span : List Deed) → IsSound g span Never (show_course a stand p) (λ x. x ≡ shown_by a stand p)
 unfolding show_course
-show_sound a stand p span = gives_sound span Never (λ x. x ≡ shown_by a stand p) (shown_by a stand p) refl
+show_sound a stand p g span = gives_sound g span Never (λ x. x ≡ shown_by a stand p) (shown_by a stand p) refl

@@ -2,44 +2,23 @@
 
 ghost use Rattle.std.specs.Prelude.{◌≡◌};
 ghost use Rattle.courses.specs.Walks.{Walks};
-ghost use Rattle.courses.specs.External.{term_of_promoted, promoted_term, external_course};
+ghost use Rattle.courses.specs.External.{promoted_term, external_course};
 
-use crate::refusals::refusal_of_undeclared;
-use crate::walk::{Walk, refuses, refusing};
-use crate::{Exit, Group};
-use shard_calls::{Answer, Call, CommandAnswer, Refusal, Stand};
+use crate::Exit;
+use crate::walk::{Walk, or_refusing, refusing};
+use refusals::{refusal_of_undeclared, term_of_promoted};
+use shard_calls::{Answer, Call, CommandAnswer, Group};
 use shard_names::Alias;
 use topo_lock::Intent;
 
-/// The term of the last intent, if the tablet stands as the primary of it; the newest row in its log is of this term.
-fn term_of_promoted(
-    alias: &Alias,
-    newest: u64,
-    intent: &Option<Intent>,
-    stand: &Stand,
-) -> Result<u64, Refusal>
-    ensures { result ≡ term_of_promoted alias.now newest intent.now stand.now }
-{
-    match intent {
-        Some(intent) if stand.is_primary_of(intent.term) => Ok(intent.term),
-        _ => Err(Refusal::NotPromoted {
-            alias: *alias,
-            newest,
-        }),
-    }
-}
-
-/// The same, as the tablet says it.
+/// The term of the last intent, if the tablet says that it stands as the primary of it.
 fn promoted_term(alias: &Alias, intent: &Option<Intent>, answer: &Answer) -> Result<u64, Exit>
     ensures { result ≡ promoted_term alias.now intent.now answer.now }
 {
     let Answer::Status { stand, newest, .. } = answer else {
         return Err(Exit::Strays);
     };
-    match term_of_promoted(alias, *newest, intent, stand) {
-        Ok(term) => Ok(term),
-        Err(refusal) => refuses(refusal),
-    }
+    or_refusing(term_of_promoted(alias, *newest, intent, stand))
 }
 
 /// The course of `TabletExternallyReparented`.

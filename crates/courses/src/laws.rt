@@ -1,13 +1,21 @@
 //! What courses promise. The functions do nothing: each one's contract is a law.
 
 ghost use Rattle.courses.specs.Examples.{FirstReparent, UndoneReparent, WaitsForPromotion, NotUndone, StraysOff, AsksWhoFollows, UndoIsNotTold, ExternalRecords, ExternalIsRefused, WriteIsCommitted, WriteFindsNoPrimary};
-ghost use Rattle.courses.specs.CourseLaws.{PlannedIsStable, PlannedIsSound, ExternalIsStable, ExternalIsSound, WriteIsStable, WriteIsSound, ShowIsStable, ShowIsSound};
+ghost use Rattle.courses.specs.EmergencyExamples.{PrimaryIsReplaced, WinnerFeeds, WaitsForStops, RefusesUnrevoked, RefusesSplit, RefusesStale};
+ghost use Rattle.courses.specs.CourseLaws.{PlannedIsStable, PlannedIsSound, EmergencyIsStable, EmergencyIsSound, ExternalIsStable, ExternalIsSound, WriteIsStable, WriteIsSound, ShowIsStable, ShowIsSound};
 
 /// Once a `PlannedReparentShard` does not wait, what comes of its calls later changes nothing of what it is to do. Each Promote that it
 /// sends has its evidence in what it did, and each of its answers has its cause there.
 pub fn planned_is_lawful()
     ensures stable { PlannedIsStable }
     ensures sound { PlannedIsSound }
+{}
+
+/// The same of an `EmergencyReparentShard`: what it asks a tablet to cover is what the winner has of those that stopped, and those keep every
+/// older primary from committing.
+pub fn emergency_is_lawful()
+    ensures stable { EmergencyIsStable }
+    ensures sound { EmergencyIsSound }
 {}
 
 /// The same of a `TabletExternallyReparented`, which sends no Promote.
@@ -41,4 +49,14 @@ pub fn examples_are_played()
     ensures external_is_refused { ExternalIsRefused }
     ensures write_is_committed { WriteIsCommitted }
     ensures write_finds_no_primary { WriteFindsNoPrimary }
+{}
+
+/// What an `EmergencyReparentShard` demands.
+pub fn emergencies_are_played()
+    ensures primary_is_replaced { PrimaryIsReplaced }
+    ensures winner_feeds { WinnerFeeds }
+    ensures waits_for_stops { WaitsForStops }
+    ensures refuses_unrevoked { RefusesUnrevoked }
+    ensures refuses_split { RefusesSplit }
+    ensures refuses_stale { RefusesStale }
 {}

@@ -2,17 +2,18 @@
 
 ghost use Rattle.std.specs.Prelude.{◌≡◌, Ok, Err, Some, None};
 ghost use Rattle.shard_calls.specs.declared.ending.CommandAnswer.TheVariants as endings;
+ghost use Rattle.shard_calls.specs.Causes.{is_idle};
 ghost use Rattle.courses.specs.Walks.{Walks, UnlessStarved, tried};
 ghost use Rattle.courses.specs.Promoting.{established, promotes};
-ghost use Rattle.courses.specs.Planned.{demoted_position, following, holding, demotes, catches_up, undone_by, undoes, reparents_all, replaces, is_idle, reparents_from, reparents_by, planned_course};
+ghost use Rattle.courses.specs.Planned.{demoted_position, following, holding, demotes, catches_up, undone_by, undoes, reparents_all, replaces, reparents_from, reparents_by, planned_course};
 
+use crate::Exit;
 use crate::choosing::{first_primary, successor};
 use crate::promoting::{established, others_than, promotes, reparents};
-use crate::refusals::{refusal_by_demoted, refusal_by_seen, refusal_of_planned};
 use crate::walk::{Walk, refusing, tried};
-use crate::{Exit, Group, PlannedOptions};
 use gtid_sets::GtidSet;
-use shard_calls::{Answer, Call, CommandAnswer, Refusal, Seen};
+use refusals::{refusal_by_demoted, refusal_by_seen, refusal_of_planned};
+use shard_calls::{Answer, Call, CommandAnswer, Group, PlannedOptions, Refusal, Seen};
 use shard_names::Alias;
 use topo_lock::Intent;
 
@@ -27,7 +28,7 @@ fn demoted_position(intent: &Intent, answer: &Answer) -> Result<GtidSet, Exit>
 }
 
 /// That a tablet follows, or has promised a later term and so has followed already.
-fn following(answer: &Answer) -> Result<(), Exit>
+pub(crate) fn following(answer: &Answer) -> Result<(), Exit>
     ensures { result ≡ following answer.now }
 {
     match answer {
@@ -38,7 +39,7 @@ fn following(answer: &Answer) -> Result<(), Exit>
     }
 }
 
-fn holding(answer: &Answer) -> Result<(), Exit>
+pub(crate) fn holding(answer: &Answer) -> Result<(), Exit>
     ensures { result ≡ holding answer.now }
 {
     match answer {

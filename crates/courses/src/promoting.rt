@@ -1,15 +1,15 @@
 //! The points at the end of every reparent.
 
-ghost use Rattle.std.specs.Prelude.{◌≡◌, ◌++◌, IfOk, OnOk};
-ghost use Rattle.std.specs.List.{flat_map};
+ghost use Rattle.std.specs.Prelude.{◌≡◌, IfOk};
 ghost use Rattle.courses.specs.Walks.{Walks, UnlessStarved};
-ghost use Rattle.courses.specs.Promoting.{promoted_position, told_so, left_by, entry_of, entry_by, not_joined, alias_if, others_than, established, promotes, reparents};
+ghost use Rattle.courses.specs.Promoting.{promoted_position, told_so, others_than, established, promotes, reparents};
 
+use crate::Exit;
 use crate::walk::Walk;
-use crate::{Deed, Exit, Group, Outcome};
 use gtid_sets::GtidSet;
+use refusals::{not_joined, push_if};
 use shard_base::{Items, OutOfMemory};
-use shard_calls::{Answer, Call, CommandAnswer, Left, NotJoined, Why};
+use shard_calls::{Answer, Call, CommandAnswer, Group};
 use shard_names::Alias;
 use std::alloc::Global;
 
@@ -31,82 +31,6 @@ fn told_so(answer: &Answer) -> Result<(), Exit>
         Answer::Told => Ok(()),
         _ => Err(Exit::Strays),
     }
-}
-
-/// Why a tablet that was asked to replicate does not.
-fn left_by(outcome: &Outcome) -> Result<Option<Left>, OutOfMemory>
-    ensures { IfOk result (λ left. left ≡ left_by outcome.now) }
-{
-    match outcome {
-        Outcome::GivenUp { why } => Ok(Some(Left::GivenUp(*why))),
-        Outcome::Answered {
-            answer: Answer::Errant { extra },
-        } => {
-            let extra = extra.copy()?;
-            Ok(Some(Left::Errant { extra }))
-        }
-        Outcome::Answered {
-            answer: Answer::StaleTerm { seen },
-        } => { Ok(Some(Left::StaleTerm { seen: *seen })) }
-        Outcome::Answered {
-            answer: Answer::PromisedAhead { promised },
-        } => {
-            let promised = *promised;
-            Ok(Some(Left::PromisedAhead { promised }))
-        }
-        Outcome::Answered { .. } => Ok(None),
-    }
-}
-
-fn push_entry(
-    into: &mut Items<NotJoined>,
-    alias: &Alias,
-    left: Option<Left>,
-) -> Result<(), OutOfMemory>
-    ensures { OnOk result (into.new ≡ into.old ++ entry_of alias.now left) }
-{
-    let _why: Option<&Why> = None;
-    match left {
-        Some(left) => into.push(NotJoined {
-            alias: *alias,
-            left,
-        }),
-        None => Ok(()),
-    }
-}
-
-fn push_not_joined(into: &mut Items<NotJoined>, deed: &Deed) -> Result<(), OutOfMemory>
-    ensures { OnOk result (into.new ≡ into.old ++ not_joined deed.now) }
-{
-    let Deed::Asked { asked } = deed else {
-        return Ok(());
-    };
-    let Some(outcome) = &asked.outcome else {
-        return Ok(());
-    };
-    let left = left_by(outcome)?;
-    push_entry(into, &asked.alias, left)
-}
-
-/// Who did not join.
-fn not_joined(alloc: Global, deeds: &[Deed]) -> Result<Items<NotJoined>, OutOfMemory>
-    ensures { IfOk result (λ left. left ≡ flat_map not_joined deeds.now) }
-{
-    let mut left = Items::new(alloc);
-    for deed in deeds {
-        push_not_joined(&mut left, deed)?;
-    }
-    Ok(left)
-}
-
-/// Puts the alias at the end if the test holds.
-pub(crate) fn push_if(into: &mut Items<Alias>, test: bool, alias: &Alias) -> Result<(), OutOfMemory>
-    ensures { OnOk result (into.new ≡ into.old ++ alias_if test alias.now) }
-{
-    if test {
-        return into.push(*alias);
-    }
-    Ok(())
 }
 
 /// All other tablets.

@@ -3,12 +3,11 @@
 ghost use Rattle.std.specs.Prelude.{◌≡◌, take};
 ghost use Rattle.std.specs.List.{list_any};
 ghost use Rattle.shard_calls.specs.declared.refusal.Refusal.TheVariants as refusals;
-ghost use Rattle.courses.specs.Walks.{is_ask, is_out, walked, Walks, ok_copied, refusing, refuses, trying, keeping_lock, took, read, intended, recorded, wrote, told, asked, called_all, calling, settling, needing, all_settled, next, takes_lock, reads, intends, records, writes, tells, asks, needs, asks_all, calls_all};
+ghost use Rattle.courses.specs.Walks.{is_ask, is_out, walked, Walks, ok_copied, refusing, refuses, or_refusing, trying, keeping_lock, took, read, intended, recorded, wrote, told, asked, called_all, calling, settling, needing, all_settled, next, takes_lock, reads, intends, records, writes, tells, asks, needs, asks_all, calls_all};
 
-use crate::refusals::refusal_after;
-use crate::{Asked, Deed, Exit, Kind, Outcome, Transaction, Want};
-use shard_base::OutOfMemory;
-use shard_calls::{Answer, Call, Refusal, Seen, Standing};
+use crate::{Exit, Want};
+use refusals::refusal_after;
+use shard_calls::{Answer, Asked, Call, Deed, Kind, Outcome, Refusal, Seen, Standing, Transaction};
 use shard_names::Alias;
 use std::alloc::Global;
 
@@ -17,17 +16,6 @@ use std::alloc::Global;
 pub struct Walk<'a> {
     alloc: Global,
     rest: &'a [Deed],
-}
-
-impl From<OutOfMemory> for Exit {
-    ghost use Rattle.std.specs.Prelude.{◌≡◌};
-    ghost use Rattle.courses.specs.declared.span.Exit.TheVariants as exits;
-
-    ghost from_gives = { λ want exit. exit ≡ exits.OutOfMemory };
-
-    fn from(_want: OutOfMemory) -> Exit {
-        Exit::OutOfMemory
-    }
 }
 
 /// Where there is a refusal it is refused.
@@ -45,6 +33,16 @@ pub fn refuses<T>(refusal: Refusal) -> Result<T, Exit>
     ensures { result ≡ refuses refusal }
 {
     Err(Exit::Refused { refusal })
+}
+
+/// It is refused, unless it is this value.
+pub fn or_refusing<T: Drop>(came: Result<T, Refusal>) -> Result<T, Exit>
+    ensures { result ≡ or_refusing came }
+{
+    match came {
+        Ok(value) => Ok(value),
+        Err(refusal) => refuses(refusal),
+    }
 }
 
 /// A refusal is a value like any other.

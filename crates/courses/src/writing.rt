@@ -2,14 +2,14 @@
 
 ghost use Rattle.std.specs.Prelude.{◌≡◌, Ok, Some};
 ghost use Rattle.courses.specs.Walks.{Walks, UnlessStarved};
-ghost use Rattle.courses.specs.Refusals.{or_else, recorded_alias};
+ghost use Rattle.shard_calls.specs.Refusals.{or_else, recorded_alias};
 ghost use Rattle.courses.specs.Writing.{told_by, written_by, writes_at, write_course, shown_by, show_course};
 
-use crate::refusals::recorded_alias;
+use crate::Exit;
 use crate::walk::Walk;
-use crate::{Exit, Transaction};
 use gtid_sets::GtidSet;
-use shard_calls::{CommandAnswer, Standing};
+use refusals::recorded_alias;
+use shard_calls::{CommandAnswer, Standing, Transaction};
 use shard_names::Alias;
 use topo_lock::Record;
 

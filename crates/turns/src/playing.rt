@@ -1,0 +1,32 @@
+//! Courses as turns are made of them.
+
+ghost use Rattle.courses.specs.Walks.{Walks};
+
+use crate::turn::Plays;
+use courses::{Exit, Walk, play};
+use shard_calls::{Command, CommandAnswer, Group, Opening};
+
+/// A command of this shard, right after the beginning of which the opening stood.
+#[derive(Drop)]
+pub struct CommandPlay {
+    pub group: Group,
+    pub command: Command,
+    pub opening: Opening,
+}
+
+impl Plays for CommandPlay {
+    ghost use Rattle.courses.specs.Course.{course_of};
+    ghost use Rattle.courses.specs.CommandLaws.{course_stable, course_founded};
+
+    ghost group = { λ p. p.group };
+
+    ghost course = { λ p. course_of p.group p.command p.opening };
+
+    ghost stable = { λ p. course_stable p.group p.command p.opening };
+
+    ghost sound = { λ p span. course_founded p.group p.command p.opening span };
+
+    fn play(&self, walk: &mut Walk<'_>) -> Result<CommandAnswer, Exit> {
+        play(walk, &self.group, &self.command, &self.opening)
+    }
+}
