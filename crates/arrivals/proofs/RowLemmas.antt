@@ -6,7 +6,7 @@ use Rattle.shard_names.specs.declared.tablet.Tablet.{Tablet}
 use Rattle.gtid_sets.specs.Logs.{position_of}
 use Rattle.gtid_sets.specs.Position.{Position, covers, nothing}
 use Rattle.shard_calls.specs.declared.call.Call.TheVariants as calls
-use Rattle.shard_calls.specs.Groups.{Group}
+use Rattle.shard_calls.specs.declared.group.Group.{Group}
 use Rattle.shard_calls.specs.Stands.{is_primary_of}
 use Rattle.shard_calls.specs.Tablets.{TabletState, opened, is_row_told}
 use Rattle.shard_calls.specs.Messages.{passes, is_row_told_at, is_ready}

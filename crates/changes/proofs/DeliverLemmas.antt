@@ -16,7 +16,7 @@ use Rattle.shard_calls.specs.declared.outcome.Accepted.TheVariants as accepteds
 use Rattle.shard_calls.specs.declared.post.Content.{Content}
 use Rattle.shard_calls.specs.declared.post.Content.TheVariants as contents
 use Rattle.shard_calls.specs.declared.post.Message.{Message}
-use Rattle.shard_calls.specs.Groups.{Group}
+use Rattle.shard_calls.specs.declared.group.Group.{Group}
 use Rattle.shard_calls.specs.Stands.{takes_from}
 use Rattle.shard_calls.specs.Tablets.{TabletState, Verdict, after_call, answer_to, accepts}
 use Rattle.shard_calls.specs.World.{Config, World, numbered, changed, changed_at, at_tablet, on_message, arrives}

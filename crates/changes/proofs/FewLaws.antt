@@ -56,9 +56,12 @@ writes_more n m (a ∷ us) le h = (omega (arith, h.0), writes_more n m us le h.1
 
 writes_one : (command : Command) → writes_by command ≤ 1
 writes_one (commands.Planned shard new_primary avoid expected timeout allow_cross_cell) = omega arith
+writes_one (commands.Emergency shard new_primary ignored expected timeout prevent_cross_cell) = omega arith
 writes_one (commands.External a) = omega arith
 writes_one (commands.Write to) = omega arith
 writes_one (commands.Show a) = omega arith
+writes_one (commands.GetShard shard) = omega arith
+writes_one (commands.GetTablets shard) = omega arith
 
 writes_opened : (n k number : ℕ) (command : Command) (us : List ActorState) → HaveFewWrites n us → HaveFewWrites (n + 1) (changed us k (opens number command))
 writes_opened n k number command [] h = tt

@@ -1,6 +1,5 @@
 pub mod ActLemmas
 pub mod PlaceLemmas
-pub mod LockLemmas
 pub mod FewLemmas
 pub mod WriteLemmas
 pub mod DeliverLemmas

@@ -9,7 +9,7 @@ use Rattle.shard_names.proofs.TabletLemmas.{alias_eq_is, alias_eq_itself}
 use Rattle.shard_names.specs.declared.alias.Alias.{Alias}
 use Rattle.shard_names.specs.declared.tablet.Tablet.{Tablet}
 use Rattle.tablet_manager.specs.Managed.{Managed, state_of, SameTablet}
-use Rattle.shard_calls.specs.Groups.{Group}
+use Rattle.shard_calls.specs.declared.group.Group.{Group}
 use Rattle.gtid_sets.specs.Logs.{greatest_number}
 use Rattle.shard_calls.specs.Tablets.{TabletState}
 use Rattle.shard_calls.specs.World.{at_tablet}

@@ -22,7 +22,7 @@ use Rattle.shard_calls.specs.declared.post.Message.{Message}
 use Rattle.shard_calls.specs.declared.stand.Stand.{Stand}
 use Rattle.shard_calls.specs.declared.stand.Stand.TheVariants as stands
 use Rattle.shard_calls.specs.declared.state.CommandState.{CommandState}
-use Rattle.shard_calls.specs.Groups.{Group}
+use Rattle.shard_calls.specs.declared.group.Group.{Group}
 use Rattle.gtid_sets.specs.Logs.{has_row, newest_row_names, position_of}
 use Rattle.shard_calls.specs.Stands.{is_down, is_stopped, is_primary_of, is_replica_in, is_feeder_in, primary_term, takes_from, waits_for}
 use Rattle.shard_calls.specs.Tablets.{TabletState, Verdict, after_call, in_term, only_says, stops, demotes, promotes, joins, feeds, waits_for_position, waits_told, writes_own}

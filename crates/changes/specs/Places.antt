@@ -1,10 +1,11 @@
 -- Where a tablet stands among the managers, and what it is to change one of them.
-use Rattle.std.specs.Prelude.{◌≡◌, ◌≢◌, ℕ, zero, suc, true, List, [], ◌∷◌, Some, ⊤}
+use Rattle.std.specs.Prelude.{◌≡◌, ◌≢◌, ℕ, zero, suc, ◌-◌, true, List, [], ◌∷◌, Some, length, take, ⊤}
 use Rattle.std.specs.List.{AllByRecursion}
 use Rattle.shard_names.specs.declared.alias.Alias.{Alias}
 use Rattle.shard_names.specs.declared.tablet.Tablet.{Tablet}
 use Rattle.shard_names.specs.Tablets.{tablet_of, is_declared}
-use Rattle.shard_calls.specs.Groups.{Group}
+use Rattle.shard_calls.specs.declared.group.Group.{Group}
+use Rattle.shard_calls.specs.declared.state.CommandState.{CommandState}
 use Rattle.shard_calls.specs.Tablets.{TabletState}
 use Rattle.shard_calls.specs.World.{at_tablet}
 use Rattle.tablet_manager.specs.Managed.{Managed}
@@ -38,3 +39,7 @@ pub record Changes (old new : List Managed) (a : Alias) (s : TabletState) : Type
 -- the tablet becomes what a definition says of it
 abbrev pub Becomes : List Managed → List Managed → Alias → (Tablet → TabletState → TabletState) → Type 0
 Becomes old new a f = (me : Tablet) → tablet_of (tablets_of old) a ≡ Some me → Changes old new a (f me (state_at old a))
+
+-- it has not done what it did last
+abbrev pub without_act : CommandState → CommandState
+without_act s = record s { acts = take (length s.acts - 1) s.acts }

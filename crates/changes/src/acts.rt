@@ -1,14 +1,14 @@
 ghost use Rattle.std.specs.Prelude.{◌≡◌, ◌<◌, ◌≤◌, ◌+◌, ◌-◌, ◌^◌, ◌∷◌, ◌++◌, [], true, length, MatchOption, OnOk, OnErr, IfOk, Some, None};
 ghost use Rattle.shard_calls.specs.World.{numbered, changed, changed_at, with_act};
-ghost use Rattle.shard_calls.specs.Locks.{as_released};
+ghost use Rattle.shard_calls.specs.Locks.{as_released, with_act_if, with_taken};
 ghost use Rattle.shard_calls.specs.Begins.{closes, opens, writes_by};
-ghost use Rattle.shard_calls.specs.declared.state.Act.TheVariants as acts;
-ghost use Rattle.shard_calls.specs.declared.event.Reply.TheVariants as replies;
 ghost use Rattle.changes.specs.Few.{HaveFewWrites};
+ghost use Rattle.changes.specs.Places.{without_act};
 
+use gtid_sets::Gtid;
 use shard_base::{Items, OutOfMemory};
-use shard_calls::{Act, ActorState, Command, CommandState, Reply, Seen, Standing, Wrote};
-use topo_lock::{Intent, Record};
+use shard_calls::{Act, ActorState, Command, CommandState, Seen, Standing, Wrote};
+use topo_lock::{Intent, LockTaken, Record};
 
 /// The place of a command's number.
 fn place_of_number(commands: &[CommandState], command: u64) -> Option<usize>
@@ -27,6 +27,10 @@ fn push_act(acts: &mut Items<Act>, new: Act) -> Result<(), OutOfMemory>
     let _record: Option<&Record> = None;
     let _intent: Option<&Intent> = None;
     let _standing: Option<&Standing> = None;
+    let _taken: Option<&Result<u64, LockTaken>> = None;
+    let _read: Option<&Result<Seen, u64>> = None;
+    let _set: Option<&Result<(), u64>> = None;
+    let _written: Option<&Result<Gtid, Standing>> = None;
     acts.push(new)
 }
 
@@ -52,32 +56,60 @@ pub(crate) fn act(
     }
 }
 
-/// The command found the lock lost, and the topology at this term.
-pub(crate) fn note_lost(
+/// The command has done this, if it has done anything.
+pub(crate) fn act_if(
     commands: &mut Vec<CommandState>,
     command: u64,
-    term: u64,
-) -> Result<Reply, OutOfMemory>
-    ensures reply { IfOk result (λ reply. reply ≡ replies.Lost term) }
-    ensures ok { OnOk result (commands.new.items ≡ changed_at commands.old.items command (with_act (acts.Lost term))) }
+    new: Option<Act>,
+) -> Result<(), OutOfMemory>
+    ensures ok { OnOk result (commands.new.items ≡ changed_at commands.old.items command (with_act_if new)) }
     ensures err { OnErr result (commands.new.items ≡ commands.old.items) }
 {
-    act(commands, command, Act::Lost { term })?;
-    Ok(Reply::Lost { term })
+    match new {
+        Some(new) => act(commands, command, new),
+        None => Ok(()),
+    }
 }
 
-fn set_term_in(state: &mut CommandState, term: u64)
-    ensures { state.new ≡ record state.old { term = Some term } }
+fn forget_in(state: &mut CommandState)
+    ensures { state.new ≡ without_act state.old }
 {
-    state.term = Some(term);
+    let count = state.acts.len();
+    state.acts.truncate(count.saturating_sub(1));
 }
 
-/// The command took the lock in this term.
-pub(crate) fn set_term(commands: &mut Vec<CommandState>, command: u64, term: u64)
-    ensures { commands.new.items ≡ changed_at commands.old.items command (λ s. record s { term = Some term }) }
+/// The command has not done what it did last. It takes no memory.
+pub(crate) fn forget(commands: &mut Vec<CommandState>, command: u64)
+    ensures { commands.new.items ≡ changed_at commands.old.items command without_act }
 {
     if let Some(at) = place_of_number(commands, command) {
-        set_term_in(&mut commands[at], term);
+        forget_in(&mut commands[at]);
+    }
+}
+
+fn take_in(state: &mut CommandState, taken: &Result<u64, LockTaken>) -> Result<(), OutOfMemory>
+    ensures ok { OnOk result (state.new ≡ with_taken taken.now state.old) }
+    ensures err { OnErr result (state.new ≡ state.old) }
+{
+    act_in(state, Act::Took { reply: *taken })?;
+    if let Ok(term) = taken {
+        state.term = Some(*term);
+    }
+    Ok(())
+}
+
+/// The command asked for the lock, and was answered this.
+pub(crate) fn note_taken(
+    commands: &mut Vec<CommandState>,
+    command: u64,
+    taken: &Result<u64, LockTaken>,
+) -> Result<(), OutOfMemory>
+    ensures ok { OnOk result (commands.new.items ≡ changed_at commands.old.items command (with_taken taken.now)) }
+    ensures err { OnErr result (commands.new.items ≡ commands.old.items) }
+{
+    match place_of_number(commands, command) {
+        Some(at) => take_in(&mut commands[at], taken),
+        None => Ok(()),
     }
 }
 
@@ -147,9 +179,12 @@ pub(crate) fn count_write(writes: u64, command: &Command) -> u64
 {
     match command {
         Command::Planned { .. } => writes,
+        Command::Emergency { .. } => writes,
         Command::External { .. } => writes,
         Command::Write { .. } => writes + 1,
         Command::Show { .. } => writes,
+        Command::GetShard { .. } => writes,
+        Command::GetTablets { .. } => writes,
     }
 }
 

@@ -1,5 +1,4 @@
 ghost use Rattle.std.specs.Prelude.{◌≡◌, ◌<◌, ◌≤◌, ◌+◌, ◌-◌, ◌^◌, ◌∷◌, ◌++◌, [], true, length, OnOk, OnErr, IfOk, IfSome, vec_len, vec_capacity};
-ghost use Rattle.shard_calls.specs.World.{place_of};
 ghost use Rattle.shard_calls.specs.Locks.{seen_of};
 ghost use Rattle.shard_calls.specs.Begins.{begun_state, client_of, names_declared, number_of, shown_by, with_actor};
 ghost use Rattle.shard_calls.specs.Table.{meets};
@@ -14,15 +13,7 @@ use crate::tablets::show;
 use shard_base::{Items, OutOfMemory};
 use shard_calls::{ActorState, Command, CommandAnswer, CommandState, Opening, Reply, Shown};
 use shard_names::Name;
-use shard_state::{Fields, open_command};
-
-/// The place of the actor with this name.
-fn place_of(actors: &[ActorState], name: &Name) -> Option<usize>
-    ensures place { result ≡ place_of actors.now name.now }
-    ensures within { IfSome result (λ k. k < length actors.now) }
-{
-    actors.iter().position(|actor| actor.name == *name)
-}
+use shard_state::{Fields, open_command, place_of};
 
 /// The place of the actor with this name, or where the next one will stand.
 fn client_of(actors: &[ActorState], name: &Name) -> u32
@@ -79,12 +70,15 @@ fn shown_by(fields: &Fields, command: &Command) -> Result<Option<Shown>, OutOfMe
 {
     match command {
         Command::Planned { .. } => Ok(None),
+        Command::Emergency { .. } => Ok(None),
         Command::External { .. } => Ok(None),
         Command::Write { .. } => Ok(None),
         Command::Show { alias } => {
             let shown = show(&fields.managers, alias)?;
             Ok(Some(shown))
         }
+        Command::GetShard { .. } => Ok(None),
+        Command::GetTablets { .. } => Ok(None),
     }
 }
 
@@ -99,16 +93,17 @@ fn opening_of(fields: &Fields, command: &Command) -> Result<Opening, OutOfMemory
 }
 
 /// A command that has just begun.
-fn begun_state(fields: &Fields, name: &Name, command: &Command, opening: Opening) -> CommandState
+fn begun_state(fields: &Fields, name: &Name, command: Command, opening: Opening) -> CommandState
     requires few { AreFew (2 ^ 20) (seen (data_of fields.now)) }
-    requires opening { opening ≡ record { seen = seen_of fields.now.topo.topology; shown = shown_by (seen (data_of fields.now)) command.now } }
-    ensures { result ≡ begun_state (seen (data_of fields.now)) name.now command.now }
+    requires opening { opening ≡ record { seen = seen_of fields.now.topo.topology; shown = shown_by (seen (data_of fields.now)) command } }
+    ensures { result ≡ begun_state (seen (data_of fields.now)) name.now command }
 {
+    let number = number_of(&fields.actors, name, &command);
     CommandState {
-        command: *command,
+        command,
         actor: *name,
         client: client_of(&fields.actors, name),
-        number: number_of(&fields.actors, name, command),
+        number,
         opening,
         term: None,
         released: false,
@@ -138,7 +133,8 @@ pub(crate) fn begin(
 {
     let opening = opening_of(fields, command)?;
     let number = next_number(&fields.commands);
-    let state = begun_state(fields, name, command, opening);
+    let kept = command.copy()?;
+    let state = begun_state(fields, name, kept, opening);
     let client = state.client as usize;
     fields.actors.reserve(1)?;
     fields.commands.reserve(1)?;

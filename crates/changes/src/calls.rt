@@ -117,8 +117,8 @@ fn told_act(reply: &Reply) -> Option<Act>
     ensures { result ≡ told_act reply.now }
 {
     match reply {
-        Reply::Told => Some(Act::Told),
-        Reply::Gone => Some(Act::Gone),
+        Reply::Told => Some(Act::Told { committed: true }),
+        Reply::Gone => Some(Act::Told { committed: false }),
         _ => None,
     }
 }

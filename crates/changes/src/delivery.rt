@@ -2,7 +2,7 @@ ghost use Rattle.std.specs.Prelude.{◌≡◌, ◌<◌, ◌≤◌, ◌-◌, ◌^
 ghost use Rattle.shard_names.specs.Tablets.{alias_eq, is_declared, tablet_of};
 ghost use Rattle.shard_names.specs.declared.tablet.Tablet.{Tablet};
 ghost use Rattle.gtid_sets.specs.Logs.{greatest_number};
-ghost use Rattle.shard_calls.specs.Groups.{Group};
+ghost use Rattle.shard_calls.specs.declared.group.Group.{Group};
 ghost use Rattle.shard_calls.specs.Stands.{is_down, takes_from};
 ghost use Rattle.shard_calls.specs.Tablets.{accepts, after_ack, after_call, answer_to};
 ghost use Rattle.shard_calls.specs.Table.{meets};
@@ -248,9 +248,8 @@ pub(crate) fn deliver(fields: &mut Fields, message: u64) -> Result<Reply, OutOfM
     ensures made { IfOk result (λ reply. Makes (data_of fields.old) (data_of fields.new) (events.Deliver message) reply) }
     ensures err { OnErr result (data_of fields.new ≡ data_of fields.old) }
 {
-    let there = match fields.post.message(message) {
-        Some(there) => there,
-        None => unreachable!(),
+    let Some(there) = fields.post.message(message) else {
+        unreachable!()
     };
     match &there.content {
         Content::Asks {
@@ -275,8 +274,7 @@ pub(crate) fn deliver(fields: &mut Fields, message: u64) -> Result<Reply, OutOfM
             index,
             entry,
         } => {
-            let (from, to, entry) = (*from, *to, *entry);
-            let (term, after, index) = (*term, *after, *index);
+            let (from, to, entry, term, after, index) = (*from, *to, *entry, *term, *after, *index);
             deliver_entry(fields, message, &from, &to, term, after, index, &entry)
         }
         Content::Acks {
@@ -285,8 +283,7 @@ pub(crate) fn deliver(fields: &mut Fields, message: u64) -> Result<Reply, OutOfM
             term,
             index,
         } => {
-            let (from, to) = (*from, *to);
-            let (term, index) = (*term, *index);
+            let (from, to, term, index) = (*from, *to, *term, *index);
             Ok(deliver_ack(fields, message, &from, &to, term, index))
         }
     }

@@ -1,32 +1,35 @@
-ghost use Rattle.std.specs.Prelude.{◌≡◌, ◌<◌, ◌-◌, ◌^◌, true, OnOk, OnErr, IfOk};
-ghost use Rattle.topo_lock.specs.Topology.{is_held_in, after_release};
+ghost use Rattle.std.specs.Prelude.{◌≡◌, ◌<◌, ◌-◌, ◌^◌, true, Err, OnOk, OnErr, IfOk};
+ghost use Rattle.std.specs.Option.{option_copied};
+ghost use Rattle.topo_lock.specs.Topology.{is_held_in, intent_of, answer_take, answer_intend, after_release};
 ghost use Rattle.shard_calls.specs.World.{changed_at, with_act};
-ghost use Rattle.shard_calls.specs.Locks.{by_term, seen_of};
+ghost use Rattle.shard_calls.specs.Locks.{by_term, intended_act, recorded_act, seen_of, topo_reply};
 ghost use Rattle.shard_calls.specs.Table.{meets};
 ghost use Rattle.shard_calls.specs.declared.state.Act.TheVariants as acts;
 ghost use Rattle.shard_calls.specs.declared.event.Event.TheVariants as events;
+ghost use Rattle.shard_calls.specs.declared.event.Reply.TheVariants as replies;
 ghost use Rattle.shard_state.specs.State.{data_of, config_in, seen};
 ghost use Rattle.changes.specs.Makes.{Makes};
 
-use crate::acts::{act, note_lost, set_released, set_term};
+use crate::acts::{act, act_if, note_taken, set_released};
 use shard_base::{Items, OutOfMemory};
-use shard_calls::{Act, CommandState, Reply, Seen};
-use shard_names::{Alias, Name};
+use shard_calls::{Act, Reply, Seen};
+use shard_names::Alias;
 use shard_state::{Fields, open_command, term_of};
 use std::alloc::Global;
-use topo_lock::{Holder, Topo, TopoFault};
+use topo_lock::{Holder, Intent, LockTaken, Topo, TopoFault};
 
-/// The command found the lock held in this term, by a command of this actor.
-fn note_taken(
-    commands: &mut Vec<CommandState>,
-    command: u64,
-    term: u64,
-    by: &Name,
-) -> Result<(), OutOfMemory>
-    ensures ok { OnOk result (commands.new.items ≡ changed_at commands.old.items command (with_act (acts.Taken term by.now))) }
-    ensures err { OnErr result (commands.new.items ≡ commands.old.items) }
+/// What one who asks for the lock is answered.
+fn answer_take(topo: &Topo) -> Result<u64, LockTaken>
+    requires { topo.now.topology.term < 2 ^ 64 - 1 }
+    ensures { result ≡ answer_take topo.now.topology }
 {
-    act(commands, command, Act::Taken { term, actor: *by })
+    match topo.holder() {
+        Some(held) => Err(LockTaken {
+            term: topo.term(),
+            actor: held.actor,
+        }),
+        None => Ok(topo.term() + 1),
+    }
 }
 
 /// Takes the lock, unless it is held.
@@ -40,40 +43,27 @@ pub(crate) fn take(fields: &mut Fields, command: u64) -> Result<Reply, OutOfMemo
         Some(state) => state.actor,
         None => unreachable!(),
     };
-    match fields.topo.holder() {
-        Some(held) => {
-            let term = fields.topo.term();
-            note_taken(&mut fields.commands, command, term, &held.actor)?;
-            Ok(Reply::Taken {
-                term,
-                actor: held.actor,
-            })
-        }
-        None => {
-            let _taken = fields.topo.take(Holder { command, actor });
-            let term = fields.topo.term();
-            set_term(&mut fields.commands, command, term);
-            Ok(Reply::Term { term })
-        }
+    let taken = answer_take(&fields.topo);
+    note_taken(&mut fields.commands, command, &taken)?;
+    let _taken = fields.topo.take(Holder { command, actor });
+    match taken {
+        Ok(term) => Ok(Reply::Term { term }),
+        Err(held) => Ok(Reply::Taken {
+            term: held.term,
+            actor: held.actor,
+        }),
     }
-}
-
-fn copied(alloc: Global, aliases: &[Alias]) -> Result<Items<Alias>, OutOfMemory>
-    ensures { IfOk result (λ copy. copy ≡ aliases.now) }
-{
-    let items = Vec::from_slice(alloc, aliases)?;
-    Ok(Items::from_vec(items))
 }
 
 /// What one who holds the lock reads.
 pub fn seen_in(alloc: Global, topo: &Topo) -> Result<Seen, OutOfMemory>
     ensures { IfOk result (λ seen. seen ≡ seen_of topo.now.topology) }
 {
-    let drained = copied(alloc, topo.drained())?;
+    let drained = Vec::from_slice(alloc, topo.drained())?;
     Ok(Seen {
         recorded: topo.recorded(),
         intent: topo.last_intent(),
-        drained,
+        drained: Items::from_vec(drained),
     })
 }
 
@@ -88,12 +78,79 @@ pub(crate) fn read(fields: &mut Fields, command: u64) -> Result<Reply, OutOfMemo
         None => unreachable!(),
     };
     if !fields.topo.is_held_in(term) {
-        return note_lost(&mut fields.commands, command, fields.topo.term());
+        let current = fields.topo.term();
+        let reply = Err(current);
+        act(&mut fields.commands, command, Act::Read { reply })?;
+        return Ok(Reply::Lost { term: current });
     }
     let kept = seen_in(fields.alloc, &fields.topo)?;
     let told = seen_in(fields.alloc, &fields.topo)?;
-    act(&mut fields.commands, command, Act::Read { seen: kept })?;
+    act(&mut fields.commands, command, Act::Read { reply: Ok(kept) })?;
     Ok(Reply::Read(told))
+}
+
+/// The intent of this term.
+fn intent_of(topo: &Topo, term: u64) -> Option<&Intent>
+    ensures { option_copied result ≡ intent_of topo.now.topology term }
+{
+    topo.intents().iter().find(|intent| intent.term == term)
+}
+
+/// What one who intends the tablet in this term is answered.
+fn answer_intend(topo: &Topo, term: u64, alias: &Alias) -> Result<(), TopoFault>
+    ensures { result ≡ answer_intend topo.now.topology term alias.now }
+{
+    topo.check_lock(term)?;
+    match intent_of(topo, term) {
+        Some(intent) if intent.alias != *alias => Err(TopoFault::IntentStands {
+            alias: intent.alias,
+        }),
+        _ => Ok(()),
+    }
+}
+
+fn topo_reply(answer: &Result<(), TopoFault>) -> Reply
+    ensures { result ≡ topo_reply answer.now }
+{
+    match answer {
+        Ok(()) => Reply::Ok,
+        Err(TopoFault::LockLost { current }) => Reply::Lost { term: *current },
+        Err(TopoFault::IntentStands { alias }) => Reply::Stands { alias: *alias },
+    }
+}
+
+/// What the command keeps of the answer to its Intend.
+fn intended_act(alias: &Alias, answer: &Result<(), TopoFault>) -> Option<Act>
+    ensures { result ≡ intended_act alias.now answer.now }
+{
+    match answer {
+        Ok(()) => Some(Act::Intended {
+            alias: *alias,
+            reply: Ok(()),
+        }),
+        Err(TopoFault::LockLost { current }) => Some(Act::Intended {
+            alias: *alias,
+            reply: Err(*current),
+        }),
+        Err(TopoFault::IntentStands { .. }) => None,
+    }
+}
+
+/// What the command keeps of the answer to its Record.
+fn recorded_act(alias: &Alias, answer: &Result<(), TopoFault>) -> Option<Act>
+    ensures { result ≡ recorded_act alias.now answer.now }
+{
+    match answer {
+        Ok(()) => Some(Act::Recorded {
+            alias: *alias,
+            reply: Ok(()),
+        }),
+        Err(TopoFault::LockLost { current }) => Some(Act::Recorded {
+            alias: *alias,
+            reply: Err(*current),
+        }),
+        Err(TopoFault::IntentStands { .. }) => None,
+    }
 }
 
 /// Intends the tablet in the command's term.
@@ -106,12 +163,11 @@ pub(crate) fn intend(fields: &mut Fields, command: u64, alias: &Alias) -> Result
         Some(term) => term,
         None => unreachable!(),
     };
+    let answer = answer_intend(&fields.topo, term, alias);
     fields.topo.reserve()?;
-    match fields.topo.intend(term, alias) {
-        Ok(()) => Ok(Reply::Ok),
-        Err(TopoFault::LockLost { current }) => note_lost(&mut fields.commands, command, current),
-        Err(TopoFault::IntentStands { alias }) => Ok(Reply::Stands { alias }),
-    }
+    act_if(&mut fields.commands, command, intended_act(alias, &answer))?;
+    let _answered = fields.topo.intend(term, alias);
+    Ok(topo_reply(&answer))
 }
 
 /// Records the tablet as the primary.
@@ -128,17 +184,11 @@ pub(crate) fn set_record(
         Some(term) => term,
         None => unreachable!(),
     };
-    if !fields.topo.is_held_in(term) {
-        return note_lost(&mut fields.commands, command, fields.topo.term());
-    }
     let now = fields.clock;
-    act(
-        &mut fields.commands,
-        command,
-        Act::Recorded { alias: *alias },
-    )?;
+    let answer = fields.topo.check_lock(term);
+    act_if(&mut fields.commands, command, recorded_act(alias, &answer))?;
     let _answered = fields.topo.set_record(term, alias, now);
-    Ok(Reply::Ok)
+    Ok(topo_reply(&answer))
 }
 
 /// Frees the lock, if it is held in this term.

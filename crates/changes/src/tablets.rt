@@ -1,7 +1,7 @@
 ghost use Rattle.std.specs.Prelude.{◌≡◌, ◌<◌, ◌≤◌, ℕ, List, true, false, length, position, MatchOption, OnOk, OnErr, IfOk, IfSome, Some};
 ghost use Rattle.shard_names.specs.Tablets.{alias_eq, tablet_of, is_declared};
 ghost use Rattle.shard_names.specs.declared.tablet.Tablet.{Tablet};
-ghost use Rattle.gtid_sets.specs.Logs.{greatest_number};
+ghost use Rattle.gtid_sets.specs.Logs.{greatest_number, next_gtid};
 ghost use Rattle.shard_calls.specs.Stands.{is_down, primary_term};
 ghost use Rattle.shard_calls.specs.Begins.{shown_of};
 ghost use Rattle.shard_calls.specs.Tablets.{after_crash, restarts, writes_local, writes};
@@ -10,6 +10,7 @@ ghost use Rattle.tablet_manager.specs.Managed.{state_of, SameTablet};
 ghost use Rattle.shard_state.specs.State.{state_at, tablets_of};
 ghost use Rattle.changes.specs.Places.{IsAt, IsNowhere, Changes, Becomes};
 
+use gtid_sets::Gtid;
 use shard_base::OutOfMemory;
 use shard_calls::{Reply, Shown, Stand, Written};
 use shard_names::Alias;
@@ -137,6 +138,24 @@ pub(crate) fn count_at(managers: &[Manager], alias: &Alias) -> usize
 {
     match find_manager(managers, alias) {
         Some(at) => managers[at].log().entries().len(),
+        None => unreachable!(),
+    }
+}
+
+/// The transaction that the tablet writes next.
+pub(crate) fn next_gtid(managers: &[Manager], alias: &Alias) -> Gtid
+    requires declared { is_declared (tablets_of managers.now) alias.now ≡ true }
+    requires numbered { (server : List ℕ) → greatest_number server (state_at managers.now alias.now).log ≤ 9223372036854775805 }
+    ensures { (me : Tablet) → tablet_of (tablets_of managers.now) alias.now ≡ Some me → result ≡ next_gtid me.server (state_at managers.now alias.now).log }
+{
+    match find_manager(managers, alias) {
+        Some(at) => {
+            let manager = &managers[at];
+            Gtid {
+                server: manager.me().server,
+                number: manager.last_number() + 1,
+            }
+        }
         None => unreachable!(),
     }
 }

@@ -1,4 +1,4 @@
-ghost use Rattle.std.specs.Prelude.{◌≡◌, ◌<◌, ◌≤◌, ◌+◌, ◌-◌, ◌^◌, ℕ, List, true, length, OnOk, OnErr, IfOk, Some};
+ghost use Rattle.std.specs.Prelude.{◌≡◌, ◌<◌, ◌≤◌, ◌+◌, ◌-◌, ◌^◌, ℕ, List, true, length, Err, Ok, OnOk, OnErr, IfOk, Some};
 ghost use Rattle.shard_names.specs.Tablets.{is_declared};
 ghost use Rattle.gtid_sets.specs.Logs.{greatest_number};
 ghost use Rattle.shard_calls.specs.Stands.{primary_term, standing_of};
@@ -11,13 +11,13 @@ ghost use Rattle.shard_state.specs.State.{data_of, config_in, seen, state_at, ta
 ghost use Rattle.changes.specs.Few.{AreFew};
 ghost use Rattle.changes.specs.Makes.{Makes};
 
-use crate::acts::{act, note_written};
+use crate::acts::{act, forget, note_written};
 use crate::tablets::{
-    count_at, crash_at, primary_term, restart_at, stand_at, write_at, write_local_at,
+    count_at, crash_at, next_gtid, primary_term, restart_at, stand_at, write_at, write_local_at,
 };
 use gtid_sets::Gtid;
 use shard_base::OutOfMemory;
-use shard_calls::{Act, CommandState, Reply, Stand, Written, Wrote};
+use shard_calls::{Act, CommandState, Reply, Stand, Wrote};
 use shard_names::Alias;
 use shard_state::{Fields, open_command};
 
@@ -29,12 +29,12 @@ fn refuse_write(
     stand: &Stand,
 ) -> Result<Reply, OutOfMemory>
     ensures reply { IfOk result (λ reply. reply ≡ replies.NotPrimary (standing_of stand.now)) }
-    ensures ok { OnOk result (commands.new.items ≡ changed_at commands.old.items command (with_act (acts.NotPrimary alias.now (standing_of stand.now)))) }
+    ensures ok { OnOk result (commands.new.items ≡ changed_at commands.old.items command (with_act (acts.Wrote alias.now (Err (standing_of stand.now))))) }
     ensures err { OnErr result (commands.new.items ≡ commands.old.items) }
 {
-    let new = Act::NotPrimary {
+    let new = Act::Wrote {
         alias: *alias,
-        stand: stand.standing(),
+        reply: Err(stand.standing()),
     };
     act(commands, command, new)?;
     Ok(Reply::NotPrimary {
@@ -62,7 +62,16 @@ fn note_entry(
     note_written(commands, command, wrote);
 }
 
-/// The primary of the term writes the command's entry.
+fn wrote_act(alias: &Alias, gtid: &Gtid) -> Act
+    ensures { result ≡ acts.Wrote alias.now (Ok gtid.now) }
+{
+    Act::Wrote {
+        alias: *alias,
+        reply: Ok(*gtid),
+    }
+}
+
+/// The primary of the term writes the command's entry. The act and what the tablet does come together or not at all.
 fn write_entry(
     fields: &mut Fields,
     command: u64,
@@ -82,13 +91,18 @@ fn write_entry(
     let client = state.client;
     let number = state.number;
     let index = count_at(&fields.managers, alias) as u64 + 1;
-    let written = write_at(&mut fields.managers, alias, client, number)?;
-    match &written {
-        Written::Entry(gtid) => {
-            note_entry(&mut fields.commands, command, gtid, alias, term, index);
-            Ok(Reply::Wrote { gtid: *gtid })
+    let gtid = next_gtid(&fields.managers, alias);
+    let new = wrote_act(alias, &gtid);
+    act(&mut fields.commands, command, new)?;
+    match write_at(&mut fields.managers, alias, client, number) {
+        Ok(_) => {
+            note_entry(&mut fields.commands, command, &gtid, alias, term, index);
+            Ok(Reply::Wrote { gtid })
         }
-        Written::NotPrimary(_) => unreachable!(),
+        Err(fault) => {
+            forget(&mut fields.commands, command);
+            Err(fault)
+        }
     }
 }
 

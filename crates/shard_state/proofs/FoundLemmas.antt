@@ -4,7 +4,7 @@ use Rattle.std.specs.List.{AllByRecursion}
 use Rattle.shard_names.specs.declared.alias.Alias.{Alias}
 use Rattle.shard_names.specs.declared.tablet.Tablet.{Tablet}
 use Rattle.shard_names.specs.Tablets.{alias_eq, tablet_of}
-use Rattle.shard_calls.specs.Groups.{Group}
+use Rattle.shard_calls.specs.declared.group.Group.{Group}
 use Rattle.shard_calls.specs.Tablets.{TabletState}
 use Rattle.tablet_manager.specs.Managed.{Managed, state_of}
 use Rattle.shard_state.specs.State.{tablets_of, groups_in, state_at}

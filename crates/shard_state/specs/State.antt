@@ -11,7 +11,7 @@ use Rattle.shard_calls.specs.declared.event.Step.{Step}
 use Rattle.shard_calls.specs.declared.post.Message.{Message}
 use Rattle.shard_calls.specs.declared.state.ActorState.{ActorState}
 use Rattle.shard_calls.specs.declared.state.CommandState.{CommandState}
-use Rattle.shard_calls.specs.Groups.{Group}
+use Rattle.shard_calls.specs.declared.group.Group.{Group}
 use Rattle.shard_calls.specs.Tablets.{TabletState, opened}
 use Rattle.shard_calls.specs.World.{Config, World, group_of}
 use Rattle.tablet_manager.specs.Managed.{Managed, state_of}

@@ -39,12 +39,15 @@ pub fn names_declared(fields: &Fields, command: &Command) -> bool
 {
     match command {
         Command::Planned { .. } => true,
+        Command::Emergency { .. } => true,
         Command::External { .. } => true,
         Command::Write { to } => match to {
             Some(alias) => is_declared(&fields.managers, alias),
             None => true,
         },
         Command::Show { alias } => is_declared(&fields.managers, alias),
+        Command::GetShard { .. } => true,
+        Command::GetTablets { .. } => true,
     }
 }
 

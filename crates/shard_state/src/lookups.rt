@@ -6,6 +6,14 @@ ghost use Rattle.shard_calls.specs.World.{numbered, if_open, term_in};
 
 use shard_calls::CommandState;
 
+/// The command of this number.
+pub(crate) fn command_of(commands: &[CommandState], command: u64) -> Option<&CommandState>
+    ensures { option_copied result ≡ numbered commands.now command }
+{
+    let at = command.checked_sub(1)?;
+    commands.get(at as usize)
+}
+
 /// The command of this number, if it has not ended.
 pub fn open_command(commands: &[CommandState], command: u64) -> Option<&CommandState>
     ensures { option_copied result ≡ if_open (numbered commands.now command) }

@@ -2,7 +2,7 @@
 
 ghost use Rattle.std.specs.Prelude.{◌≡◌};
 ghost use Rattle.shard_calls.specs.Begins.{is_in_time};
-ghost use Rattle.shard_calls.specs.Messages.{timeout_of};
+ghost use Rattle.shard_calls.specs.Commands.{timeout_of};
 ghost use Rattle.shard_calls.specs.Table.{may_tick};
 ghost use Rattle.shard_state.specs.State.{data_of, seen};
 
@@ -34,9 +34,12 @@ pub fn timeout_of(command: &Command) -> u64
 {
     match command {
         Command::Planned { timeout, .. } => timeout.unwrap_or(TIMEOUT),
+        Command::Emergency { timeout, .. } => timeout.unwrap_or(TIMEOUT),
         Command::External { .. } => TIMEOUT,
         Command::Write { .. } => TIMEOUT,
         Command::Show { .. } => TIMEOUT,
+        Command::GetShard { .. } => TIMEOUT,
+        Command::GetTablets { .. } => TIMEOUT,
     }
 }
 

@@ -12,9 +12,12 @@ fn is_write(command: &Command) -> bool
 {
     match command {
         Command::Planned { .. } => false,
+        Command::Emergency { .. } => false,
         Command::External { .. } => false,
         Command::Write { .. } => true,
         Command::Show { .. } => false,
+        Command::GetShard { .. } => false,
+        Command::GetTablets { .. } => false,
     }
 }
 

@@ -8,7 +8,7 @@ use Rattle.gtid_sets.specs.declared.entry.Kind.{Kind}
 use Rattle.gtid_sets.specs.declared.entry.Kind.TheVariants as kind
 use Rattle.replication.specs.Acks.{Acks, acked_in, aliases_of}
 use Rattle.shard_calls.specs.declared.stand.Stand.{Stand}
-use Rattle.shard_calls.specs.Groups.{Group}
+use Rattle.shard_calls.specs.declared.group.Group.{Group}
 use Rattle.shard_calls.specs.Tablets.{TabletState}
 use Rattle.tablet_manager.specs.LogState.{LogState}
 

@@ -1,7 +1,7 @@
 use Rattle.std.proofs.Common.{ap, sym, subst, ◌∙◌}
 use Rattle.std.proofs.lemmas.Result.{on_ok_weaker, IfOk-weaker}
 use Rattle.shard_names.specs.declared.alias.Alias.{Alias}
-use Rattle.shard_calls.specs.Groups.{Group}
+use Rattle.shard_calls.specs.declared.group.Group.{Group}
 use Rattle.shard_calls.specs.Stands.{is_down}
 use Rattle.shard_calls.specs.Tablets.{TabletState, after_call, answer_to}
 use Rattle.tablet_manager.specs.Managed.{Managed, state_of}
