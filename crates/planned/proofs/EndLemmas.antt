@@ -7,7 +7,7 @@ use Rattle.shard_calls.specs.declared.state.CommandState.{CommandState}
 use Rattle.shard_calls.specs.World.{World, changed, changed_at, numbered, place_of, if_open, open_command}
 use Rattle.shard_calls.specs.Begins.{closes, ends_by}
 use Rattle.shard_calls.proofs.ListLemmas.{changed_cases, changed_at_cases}
-use Rattle.planned.proofs.ReparentLemmas.{open_numbered}
+use Rattle.planned.proofs.KnownLemmas.{open_numbered}
 use Rattle.planned.proofs.ActorLemmas.{changed_other, changed_at_other, changed_own, own_change, place_changed}
 use Rattle.planned.proofs.MatchLemmas.{Match}
 use Rattle.planned.proofs.BeginLemmas.{same_actor}

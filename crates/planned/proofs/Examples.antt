@@ -17,6 +17,7 @@ use Rattle.shard_calls.specs.declared.ending.Left.TheVariants as lefts
 use Rattle.shard_calls.specs.declared.refusal.Bar.TheVariants as bars
 use Rattle.shard_calls.specs.declared.refusal.Refusal.TheVariants as refusals
 use Rattle.shard_calls.specs.declared.refusal.Unacked.TheVariants as unackeds
+use Rattle.shard_calls.specs.declared.refusal.Unreached.TheVariants as unreacheds
 use Rattle.shard_calls.specs.declared.event.Event.{Event}
 use Rattle.shard_calls.specs.declared.event.Event.TheVariants as events
 use Rattle.shard_calls.specs.declared.event.Side.TheVariants as sides
@@ -24,8 +25,17 @@ use Rattle.shard_calls.specs.declared.post.Message.{Message}
 use Rattle.shard_calls.specs.declared.stand.Standing.TheVariants as standings
 use Rattle.shard_calls.specs.declared.why.Why.TheVariants as whys
 use Rattle.shard_calls.specs.World.{Config, World, opening, main_name, open_command}
-use Rattle.shard_calls.specs.Messages.{may_arrive}
+use Rattle.shard_calls.specs.Messages.{may_arrive, offer_to}
 use Rattle.shard_calls.specs.Table.{meets, after}
+use Rattle.durability.specs.Counting.{is_unrevoked}
+use Rattle.shard_calls.specs.Choosing.{reason_to_follow, reason_among}
+use Rattle.shard_calls.specs.Rescuing.{fitness, reason_to_rescue}
+use Rattle.courses.specs.Promoting.{established, promotes, reparents}
+use Rattle.courses.specs.Planned.{successor, demotes, catches_up, undone_by, undoes, reparents_all, replaced_by, replaces, reparents_from, reparents_by, planned_course}
+use Rattle.courses.specs.Emergency.{stops_all, is_fed, has_all, takes_over, rescues_by, rescues, emergency_course}
+use Rattle.courses.specs.External.{external_course}
+use Rattle.courses.specs.Writing.{write_course, show_course}
+use Rattle.courses.specs.Course.{course_of}
 use Rattle.planned.specs.Leaving.{or_else}
 use Rattle.planned.specs.Course.{may, next, leaves}
 
@@ -45,6 +55,18 @@ turn config w c =
 abbrev played : Config → World → ℕ → ℕ → List Event
 played config w c zero = []
 played config w c (suc n) = elim (turn config w c) [ None ↦ [] | Some e ↦ e ∷ played config (after config w e) c n ]
+
+-- the first of these tablets that may be offered an entry
+abbrev offered : World → List Tablet → Option Event
+offered w [] = None
+offered w (t ∷ ts) = cond (is_some (offer_to w t.alias)) (Some (events.Offer t.alias)) (offered w ts)
+
+-- the same turns, with entries where nothing else comes; and the last of them
+abbrev last_pumped : Config → World → ℕ → ℕ → Option Event → Option Event
+last_pumped config w c zero last = last
+last_pumped config w c (suc n) last =
+    elim (or_else (turn config w c) (cond (is_some (open_command w c)) (offered w config.tablets) None))
+    [ None ↦ last | Some e ↦ last_pumped config (after config w e) c n (Some e) ]
 
 -- the condition of each row holds
 abbrev all_met : Config → World → List Event → Bool
@@ -129,20 +151,35 @@ events_of_reparent =
     ∷ []
 
 reparent_played : played replicas (after_begin replicas z100) 1 40 ≡ events_of_reparent
+unfolding course_of established promotes reparents reason_to_follow reason_among successor demotes catches_up undone_by undoes reparents_all replaced_by replaces reparents_from reparents_by planned_course
 reparent_played = refl
 
 reparent_met : all_met replicas (after_begin replicas z100) events_of_reparent ≡ true
+unfolding course_of established promotes reparents reason_to_follow reason_among successor demotes catches_up undone_by undoes reparents_all replaced_by replaces reparents_from reparents_by planned_course
 reparent_met = refl
 
 abbrev after_reparent : World
 after_reparent = world_after_events replicas (after_begin replicas z100) events_of_reparent
 
--- ---- a second one finds the intent of the first
+-- ---- a second one replaces the primary
 
 second_played :
-    played replicas (after replicas after_reparent (events.Begin main_name (planned_to z101))) 2 40
-    ≡ events.Take 2 ∷ events.Read 2 ∷ events.Release 2 ∷ events.End 2 (answers.Refused (refusals.NotBuilt 1) None) ∷ []
+    last_pumped replicas (after replicas after_reparent (events.Begin main_name (planned_to z101))) 2 60 None ≡ Some (events.End 2 (answers.Promoted z101 2 []))
+unfolding course_of established promotes reparents reason_to_follow reason_among successor demotes catches_up undone_by undoes reparents_all replaced_by replaces reparents_from reparents_by planned_course
 second_played = refl
+
+-- where none is given, the first of its replicas that has most
+chosen_played :
+    last_pumped replicas (after replicas after_reparent (events.Begin main_name (commands.Planned commerce None (Some z100) None None false))) 2 60 None
+    ≡ Some (events.End 2 (answers.Promoted z101 2 []))
+unfolding course_of established promotes reparents reason_to_follow reason_among successor demotes catches_up undone_by undoes reparents_all replaced_by replaces reparents_from reparents_by planned_course
+chosen_played = refl
+
+idle_played :
+    played replicas (after replicas after_reparent (events.Begin main_name (commands.Planned commerce None (Some z101) None None false))) 2 60
+    ≡ events.Take 2 ∷ events.Read 2 ∷ events.Release 2 ∷ events.End 2 (answers.NothingToDo z100) ∷ []
+unfolding course_of established promotes reparents reason_to_follow reason_among successor demotes catches_up undone_by undoes reparents_all replaced_by replaces reparents_from reparents_by planned_course
+idle_played = refl
 
 -- ---- a tablet whose link is cut
 
@@ -159,6 +196,7 @@ cut_played :
     ∷ events.Release 1
     ∷ events.End 1 (answers.Refused (refusals.Unreachable z100 whys.Cut) None)
     ∷ []
+unfolding course_of established promotes reparents reason_to_follow reason_among successor demotes catches_up undone_by undoes reparents_all replaced_by replaces reparents_from reparents_by planned_course
 cut_played = refl
 
 -- ---- two tablets that do not join
@@ -190,6 +228,7 @@ left_played :
     ∷ events.Release 1
     ∷ events.End 1 (answers.Promoted z100 1 who_left)
     ∷ []
+unfolding course_of established promotes reparents reason_to_follow reason_among successor demotes catches_up undone_by undoes reparents_all replaced_by replaces reparents_from reparents_by planned_course
 left_played = refl
 
 -- two calls that may both be given up: either may be, the first by alias is
@@ -210,31 +249,33 @@ after_two_cuts =
     ∷ [])
 
 two_given_up : may replicas after_two_cuts 1 ≡ events.GiveUp 1 3 ∷ events.GiveUp 1 4 ∷ []
+unfolding course_of established promotes reparents reason_to_follow reason_among successor demotes catches_up undone_by undoes reparents_all replaced_by replaces reparents_from reparents_by planned_course
 two_given_up = refl
 
 -- ---- reparents that are refused at once
 
 undeclared_played :
     played three (after_begin three (alias_of 109)) 1 40 ≡ events.End 1 (answers.Refused (refusals.NoSuchTablet (alias_of 109)) None) ∷ []
+unfolding course_of established promotes reparents reason_to_follow reason_among successor demotes catches_up undone_by undoes reparents_all replaced_by replaces reparents_from reparents_by planned_course
 undeclared_played = refl
 
 spare_played :
     played three (after_begin three (alias_of 103)) 1 40 ≡ events.End 1 (answers.Refused (refusals.NotEligible (alias_of 103) bars.MustNot) None) ∷ []
+unfolding course_of established promotes reparents reason_to_follow reason_among successor demotes catches_up undone_by undoes reparents_all replaced_by replaces reparents_from reparents_by planned_course
 spare_played = refl
 
--- ---- commands that have no course yet
+-- ---- a promotion by other hands
 
-abbrev begun_played : Command → List Event
-begun_played command = played replicas (after replicas (opening replicas) (events.Begin main_name command)) 1 40
-
-chosen_played : begun_played (commands.Planned commerce None None None None false) ≡ events.End 1 (answers.Refused refusals.OutOfMemory None) ∷ []
-chosen_played = refl
-
-avoided_played : begun_played (commands.Planned commerce (Some z100) (Some z101) None None false) ≡ events.End 1 (answers.Refused refusals.OutOfMemory None) ∷ []
-avoided_played = refl
-
-external_played : begun_played (commands.External z100) ≡ events.End 1 (answers.Refused refusals.OutOfMemory None) ∷ []
+external_played :
+    last_pumped replicas (after replicas after_reparent (events.Begin main_name (commands.External z100))) 2 60 None ≡ Some (events.End 2 (answers.Recorded 1))
+unfolding course_of external_course established promotes reparents reparents_all reparents_by planned_course
 external_played = refl
+
+unpromoted_played :
+    last_pumped replicas (after replicas after_reparent (events.Begin main_name (commands.External z101))) 2 60 None
+    ≡ Some (events.End 2 (answers.Refused (refusals.NotPromoted z101 0) None))
+unfolding course_of external_course established promotes reparents reparents_all reparents_by planned_course
+unpromoted_played = refl
 
 -- ---- a lock that is held by another, and one that is lost
 
@@ -242,12 +283,14 @@ abbrev after_taken : World
 after_taken = world_after_events replicas (after_begin replicas z100) (events.Take 1 ∷ events.Begin (codes "p") (planned_to z101) ∷ [])
 
 taken_played : played replicas after_taken 2 40 ≡ events.Take 2 ∷ events.End 2 (answers.Refused (refusals.LockTaken 1 main_name) None) ∷ []
+unfolding course_of established promotes reparents reason_to_follow reason_among successor demotes catches_up undone_by undoes reparents_all replaced_by replaces reparents_from reparents_by planned_course
 taken_played = refl
 
 abbrev after_lapse : World
 after_lapse = world_after_events replicas (after_begin replicas z100) (events.Take 1 ∷ events.Read 1 ∷ events.Lapse ∷ [])
 
 lost_played : played replicas after_lapse 1 40 ≡ events.Intend 1 z100 ∷ events.Release 1 ∷ events.End 1 (answers.Refused (refusals.LockLost 1) None) ∷ []
+unfolding course_of established promotes reparents reason_to_follow reason_among successor demotes catches_up undone_by undoes reparents_all replaced_by replaces reparents_from reparents_by planned_course
 lost_played = refl
 
 -- ---- writes and shows
@@ -255,15 +298,18 @@ lost_played = refl
 write_played :
     played replicas (after replicas after_reparent (events.Begin main_name (commands.Write None))) 2 40
     ≡ events.Write 2 z100 ∷ events.Tell 2 ∷ events.End 2 (answers.Committed (gtid_of 0 2) z100 1) ∷ []
+unfolding course_of write_course show_course established promotes reparents reparents_all reparents_by planned_course
 write_played = refl
 
 unrecorded_played :
     played replicas (after replicas (opening replicas) (events.Begin main_name (commands.Write None))) 1 40 ≡ events.End 1 answers.NoPrimaryRecorded ∷ []
+unfolding course_of write_course show_course established promotes reparents reparents_all reparents_by planned_course
 unrecorded_played = refl
 
 stopped_played :
     played replicas (after replicas (opening replicas) (events.Begin main_name (commands.Write (Some z101)))) 1 40
     ≡ events.Write 1 z101 ∷ events.End 1 (answers.NotPrimary z101 standings.Stopped) ∷ []
+unfolding course_of write_course show_course established promotes reparents reparents_all reparents_by planned_course
 stopped_played = refl
 
 abbrev after_written_down : World
@@ -271,11 +317,13 @@ after_written_down =
     world_after_events replicas after_reparent (events.Begin main_name (commands.Write None) ∷ events.Write 2 z100 ∷ events.Crash z100 0 ∷ [])
 
 unknown_played : played replicas after_written_down 2 40 ≡ events.Tell 2 ∷ events.End 2 (answers.Unknown (gtid_of 0 2) z100 1) ∷ []
+unfolding course_of write_course show_course established promotes reparents reparents_all reparents_by planned_course
 unknown_played = refl
 
 show_played :
     played replicas (after replicas after_reparent (events.Begin main_name (commands.Show z100))) 2 40
     ≡ events.End 2 (answers.Shown z100 (standings.Primary 1) (of_gtids (gtid_of 0 1 ∷ []))) ∷ []
+unfolding course_of write_course show_course established promotes reparents reparents_all reparents_by planned_course
 show_played = refl
 
 -- ---- a call that waits too long
@@ -288,10 +336,12 @@ after_wait ms =
 late_played :
     played replicas (after_wait 15000) 1 40
     ≡ events.GiveUp 1 1 ∷ events.Release 1 ∷ events.End 1 (answers.Refused (refusals.Unreachable z100 (whys.TimedOut start (start + 15000))) None) ∷ []
+unfolding course_of established promotes reparents reason_to_follow reason_among successor demotes catches_up undone_by undoes reparents_all replaced_by replaces reparents_from reparents_by planned_course
 late_played = refl
 
 -- a millisecond before, it waits
 in_time_played : played replicas (after_wait 14999) 1 3 ≡ events.Deliver 1 ∷ events.Deliver 2 ∷ events.Record 1 z100 ∷ []
+unfolding course_of established promotes reparents reason_to_follow reason_among successor demotes catches_up undone_by undoes reparents_all replaced_by replaces reparents_from reparents_by planned_course
 in_time_played = refl
 
 -- where a timeout is given, it waits for that
@@ -309,6 +359,7 @@ after_short_wait =
 short_played :
     played replicas after_short_wait 1 40
     ≡ events.GiveUp 1 1 ∷ events.Release 1 ∷ events.End 1 (answers.Refused (refusals.Unreachable z100 (whys.TimedOut start (start + 200))) None) ∷ []
+unfolding course_of established promotes reparents reason_to_follow reason_among successor demotes catches_up undone_by undoes reparents_all replaced_by replaces reparents_from reparents_by planned_course
 short_played = refl
 
 -- ---- a tablet that comes up again, and is no primary any more
@@ -330,6 +381,7 @@ after_lost_answer =
 kept_played :
     played replicas after_lost_answer 1 40
     ≡ events.Deliver 3 ∷ events.Release 1 ∷ events.End 1 (answers.Refused (refusals.NotAcknowledged z100 (unackeds.Kept standings.Stopped)) None) ∷ []
+unfolding course_of established promotes reparents reason_to_follow reason_among successor demotes catches_up undone_by undoes reparents_all replaced_by replaces reparents_from reparents_by planned_course
 kept_played = refl
 
 abbrev after_restart : World
@@ -360,6 +412,7 @@ untold_played :
     ∷ events.Release 1
     ∷ events.End 1 (answers.Refused (refusals.NotAcknowledged z100 (unackeds.Kept standings.Stopped)) None)
     ∷ []
+unfolding course_of established promotes reparents reason_to_follow reason_among successor demotes catches_up undone_by undoes reparents_all replaced_by replaces reparents_from reparents_by planned_course
 untold_played = refl
 
 -- ---- a shard of one tablet, and one that runs out of memory under the lock
@@ -382,12 +435,15 @@ single_played :
     ∷ events.Release 1
     ∷ events.End 1 (answers.Promoted z100 1 [])
     ∷ []
+unfolding course_of established promotes reparents reason_to_follow reason_among successor demotes catches_up undone_by undoes reparents_all replaced_by replaces reparents_from reparents_by planned_course
 single_played = refl
 
 leaving_first : leaves after_lapse 1 ≡ events.Release 1
+unfolding course_of established promotes reparents reason_to_follow reason_among successor demotes catches_up undone_by undoes reparents_all replaced_by replaces reparents_from reparents_by planned_course
 leaving_first = refl
 
 leaving_then : leaves (after replicas after_lapse (events.Release 1)) 1 ≡ events.End 1 (answers.Refused refusals.OutOfMemory None)
+unfolding course_of established promotes reparents reason_to_follow reason_among successor demotes catches_up undone_by undoes reparents_all replaced_by replaces reparents_from reparents_by planned_course
 leaving_then = refl
 
 -- ---- acknowledgements under semi_sync
@@ -415,6 +471,7 @@ events_up_to_wait =
 
 -- where no tablet has acknowledged the row, nothing comes, and nothing is done
 wait_played : played semi (after_begin semi z100) 1 40 ≡ events_up_to_wait
+unfolding course_of established promotes reparents reason_to_follow reason_among successor demotes catches_up undone_by undoes reparents_all replaced_by replaces reparents_from reparents_by planned_course
 wait_played = refl
 
 abbrev after_semi_wait : World
@@ -428,6 +485,7 @@ not_told_played :
     ∷ events.Release 1
     ∷ events.End 1 (answers.Refused (refusals.NotAcknowledged z100 (unackeds.NotTold start (start + 16000))) None)
     ∷ []
+unfolding course_of established promotes reparents reason_to_follow reason_among successor demotes catches_up undone_by undoes reparents_all replaced_by replaces reparents_from reparents_by planned_course
 not_told_played = refl
 
 -- a replica acknowledges the row, and the promotion counts as committed
@@ -435,6 +493,7 @@ abbrev events_of_ack : List Event
 events_of_ack = events.Offer z101 ∷ events.Deliver 8 ∷ events.Deliver 9 ∷ []
 
 ack_met : all_met semi after_semi_wait events_of_ack ≡ true
+unfolding course_of established promotes reparents reason_to_follow reason_among successor demotes catches_up undone_by undoes reparents_all replaced_by replaces reparents_from reparents_by planned_course
 ack_met = refl
 
 abbrev after_ack : World
@@ -442,6 +501,7 @@ after_ack = world_after_events semi after_semi_wait events_of_ack
 
 acked_played :
     played semi after_ack 1 40 ≡ events.Deliver 7 ∷ events.Deliver 10 ∷ events.Release 1 ∷ events.End 1 (answers.Promoted z100 1 []) ∷ []
+unfolding course_of established promotes reparents reason_to_follow reason_among successor demotes catches_up undone_by undoes reparents_all replaced_by replaces reparents_from reparents_by planned_course
 acked_played = refl
 
 -- a write waits to be told until a replica has acknowledged it too
@@ -457,13 +517,44 @@ after_semi_write =
     ∷ [])
 
 write_waits : may semi after_semi_write 2 ≡ []
+unfolding course_of write_course show_course established promotes reparents reparents_all reparents_by planned_course
 write_waits = refl
 
 abbrev events_of_write_ack : List Event
 events_of_write_ack = events.Offer z101 ∷ events.Deliver 11 ∷ events.Deliver 12 ∷ []
 
 write_ack_met : all_met semi after_semi_write events_of_write_ack ≡ true
+unfolding course_of established promotes reparents reason_to_follow reason_among successor demotes catches_up undone_by undoes reparents_all replaced_by replaces reparents_from reparents_by planned_course
 write_ack_met = refl
 
 write_told : may semi (world_after_events semi after_semi_write events_of_write_ack) 2 ≡ events.Tell 2 ∷ []
+unfolding course_of write_course show_course established promotes reparents reparents_all reparents_by planned_course
 write_told = refl
+
+-- ---- a primary that is down
+
+abbrev emergency : Command
+emergency = commands.Emergency commerce None [] None None false
+
+-- under semi_sync the two replicas keep it from committing, and the one that has its row takes over
+abbrev after_semi_down : World
+after_semi_down =
+    world_after_events semi after_ack
+    (events.Deliver 7
+    ∷ events.Deliver 10
+    ∷ events.Release 1
+    ∷ events.End 1 (answers.Promoted z100 1 [])
+    ∷ events.Crash z100 0
+    ∷ events.Begin main_name emergency
+    ∷ [])
+
+rescued_played : last_pumped semi after_semi_down 2 60 None ≡ Some (events.End 2 (answers.Promoted z101 2 []))
+unfolding course_of established promotes reparents reparents_all reparents_by planned_course reason_to_rescue fitness is_unrevoked stops_all is_fed has_all takes_over rescues_by rescues emergency_course
+rescued_played = refl
+
+-- without acknowledgements nothing keeps it from that
+not_revoked_played :
+    last_pumped replicas (after replicas (after replicas after_reparent (events.Crash z100 0)) (events.Begin main_name emergency)) 2 60 None
+    ≡ Some (events.End 2 (answers.Refused (refusals.NotRevoked z100 (record { alias = z100; unreached = unreacheds.GivenUp whys.Down } ∷ [])) None))
+unfolding course_of established promotes reparents reparents_all reparents_by planned_course reason_to_rescue fitness is_unrevoked stops_all is_fed has_all takes_over rescues_by rescues emergency_course
+not_revoked_played = refl

@@ -1,14 +1,10 @@
 pub mod Examples
-pub mod TestLemmas
 pub mod KnownLemmas
 pub mod NextLemmas
-pub mod AnswerLemmas
-pub mod ReparentLemmas
-pub mod WritingLemmas
+pub mod HaltLemmas
+pub mod CourseLemmas
 pub mod WaitLemmas
-pub mod PostFitLemmas
 pub mod CommandFitLemmas
-pub mod OwnCallLemmas
 pub mod ReachedLemmas
 pub mod ActorLemmas
 pub mod MatchLemmas
@@ -16,7 +12,5 @@ pub mod BeginLemmas
 pub mod EndLemmas
 pub mod PendingLemmas
 pub mod FollowLemmas
-pub mod SentLemmas
-pub mod CameLemmas
-pub mod PastLemmas
-pub mod TellLemmas
+pub mod LateLemmas
+pub mod GivingLemmas

@@ -103,15 +103,15 @@ pub read_match : (w : World) (c : ℕ) (o : Option ℕ) → Match w.actors w.com
 read_match w c None h = h
 read_match w c (Some t) h = on_change w c (with_act (read_act w.topo t)) (λ x. alike_itself x (with_act (read_act w.topo t) x) refl refl refl) h
 
-intended_alike : (r : Result (Unit {0}) TopoFault) (x : CommandState) → Alike x (with_intended r x)
-intended_alike (Ok u) x = itself x
-intended_alike (Err (faults.LockLost current)) x = alike_itself x (with_intended (Err (faults.LockLost current)) x) refl refl refl
-intended_alike (Err (faults.IntentStands b)) x = itself x
+intended_alike : (a : Alias) (r : Result (Unit {0}) TopoFault) (x : CommandState) → Alike x (with_intended a r x)
+intended_alike a (Ok u) x = alike_itself x (with_intended a (Ok u) x) refl refl refl
+intended_alike a (Err (faults.LockLost current)) x = alike_itself x (with_intended a (Err (faults.LockLost current)) x) refl refl refl
+intended_alike a (Err (faults.IntentStands b)) x = itself x
 
 pub intend_match : (w : World) (c : ℕ) (a : Alias) (o : Option ℕ) → Match w.actors w.commands
     → Match (by_term o w (intends_in w c a)).actors (by_term o w (intends_in w c a)).commands
 intend_match w c a None h = h
-intend_match w c a (Some t) h = on_change w c (with_intended (answer_intend w.topo t a)) (λ x. intended_alike (answer_intend w.topo t a) x) h
+intend_match w c a (Some t) h = on_change w c (with_intended a (answer_intend w.topo t a)) (λ x. intended_alike a (answer_intend w.topo t a) x) h
 
 recorded_alike : (a : Alias) (r : Result (Unit {0}) TopoFault) (x : CommandState) → Alike x (with_recorded a r x)
 recorded_alike a (Ok u) x = alike_itself x (with_recorded a (Ok u) x) refl refl refl

@@ -14,7 +14,7 @@ use Rattle.shard_calls.specs.Messages.{why_given_up, offer_to}
 use Rattle.shard_calls.specs.Writes.{tell_of, told_act}
 use Rattle.shard_calls.specs.Table.{Met, after, world_after, IsRunFrom}
 use Rattle.shard_names.proofs.TabletLemmas.{both, both_left}
-use Rattle.planned.proofs.ReparentLemmas.{open_numbered}
+use Rattle.planned.proofs.KnownLemmas.{open_numbered}
 use Rattle.planned.specs.Pending.{PendingIsOpen, OpenIsPending, FreeMayBegin, EndedMayBegin, ActorsFitAlways}
 use Rattle.planned.proofs.ActorLemmas.{at_place}
 use Rattle.planned.proofs.CommandFitLemmas.{delivery_alone, up_alone, offer_alone, local_alone}

@@ -1,5 +1,5 @@
 -- How a command leaves: with an answer or a refusal, and without the lock. After the shard lock of PlannedReparentShard (Vitess manual).
-use Rattle.std.specs.Prelude.{ℕ, Bool, not, ◌&&◌, List, [], ◌∷◌, Option, Some, None, is_some, if◌then◌else◌}
+use Rattle.std.specs.Prelude.{ℕ, Bool, not, ◌&&◌, Option, Some, None, is_some, if◌then◌else◌}
 use Rattle.shard_calls.specs.declared.ending.CommandAnswer.{CommandAnswer}
 use Rattle.shard_calls.specs.declared.ending.CommandAnswer.TheVariants as answers
 use Rattle.shard_calls.specs.declared.refusal.Refusal.{Refusal}
@@ -19,17 +19,7 @@ leaving c s x = if owes_release s then events.Release c else events.End c x
 abbrev pub refusing : ℕ → CommandState → Refusal → Event
 refusing c s refusal = leaving c s (answers.Refused refusal None)
 
--- it leaves if it is refused, and else goes on like this
-abbrev pub unless_refused : ℕ → CommandState → Option Refusal → List Event → List Event
-unless_refused c s None rest = rest
-unless_refused c s (Some refusal) rest = refusing c s refusal ∷ []
-
--- ---- what the first of a list gives that gives anything
-
+-- the second, where the first is none
 abbrev pub or_else : {A : Type 0} → Option A → Option A → Option A
 or_else None other = other
 or_else (Some x) other = Some x
-
-abbrev pub first_by : {A B : Type 0} → (A → Option B) → List A → Option B
-first_by f [] = None
-first_by f (x ∷ xs) = or_else (f x) (first_by f xs)

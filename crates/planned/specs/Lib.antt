@@ -1,9 +1,6 @@
 pub mod Leaving
-pub mod Calls
-pub mod Reparent
-pub mod Writing
 pub mod Course
-pub mod Steps
+pub mod Late
 pub mod Laws
 pub mod Pending
 pub mod Follows

@@ -1,10 +1,12 @@
+//! How a command leaves.
+
 ghost use Rattle.std.specs.Prelude.{◌≡◌};
-ghost use Rattle.shard_state.specs.State.{data_of, seen};
+ghost use Rattle.shard_core.specs.Kept.{world_of};
 ghost use Rattle.planned.specs.Leaving.{owes_release, leaving, refusing};
 ghost use Rattle.planned.specs.Course.{leaves};
 
 use shard_calls::{CommandAnswer, CommandState, Event, Refusal};
-use shard_state::{Fields, open_command};
+use shard_core::Shard;
 
 /// Whether the command took the lock, and has not freed it.
 fn owes_release(state: &CommandState) -> bool
@@ -33,10 +35,10 @@ pub(crate) fn refusing(command: u64, state: &CommandState, refusal: Refusal) -> 
 }
 
 /// How an open command leaves that has run out of memory: it frees the lock once, if it took it, and ends. It takes no memory.
-pub fn leaves(fields: &Fields, command: u64) -> Event
-    ensures { result ≡ leaves (seen (data_of fields.now)) command }
+pub fn leaves(shard: &Shard, command: u64) -> Event
+    ensures { result ≡ leaves (world_of shard.now) command }
 {
-    match open_command(&fields.commands, command) {
+    match shard.command(command) {
         Some(state) => refusing(command, state, Refusal::OutOfMemory),
         None => Event::End {
             command,

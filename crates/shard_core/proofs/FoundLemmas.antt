@@ -8,7 +8,7 @@ use Rattle.shard_calls.specs.declared.event.Note.{Note}
 use Rattle.shard_calls.specs.declared.event.Reply.TheVariants as replies
 use Rattle.shard_calls.specs.declared.event.Step.{Step}
 use Rattle.shard_calls.specs.declared.state.Wrote.{Wrote}
-use Rattle.shard_calls.specs.Groups.{Group}
+use Rattle.shard_calls.specs.declared.group.Group.{Group}
 use Rattle.shard_calls.specs.Stands.{is_primary_of}
 use Rattle.shard_calls.specs.Tablets.{TabletState, is_told}
 use Rattle.shard_calls.specs.World.{World, group_of}

@@ -1,3 +1,4 @@
+pub mod CauseLemmas
 pub mod RoomLemmas
 pub mod RunLemmas
 pub mod OpeningLemmas

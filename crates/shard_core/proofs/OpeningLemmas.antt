@@ -8,7 +8,7 @@ use Rattle.shard_names.specs.declared.tablet.Tablet.{Tablet}
 use Rattle.durability.specs.declared.policy.Durability.{Durability}
 use Rattle.topo_lock.specs.Topology.{fresh}
 use Rattle.shard_calls.specs.declared.state.ActorState.{ActorState}
-use Rattle.shard_calls.specs.Groups.{Group}
+use Rattle.shard_calls.specs.declared.group.Group.{Group}
 use Rattle.shard_calls.specs.Tablets as tablets
 use Rattle.shard_calls.specs.Tablets.{TabletState}
 use Rattle.shard_calls.specs.World.{World, opening, idle_actor, main_name}

@@ -36,6 +36,7 @@ use Rattle.shard_calls.specs.Writes.{tell_of, told_act, with_told, with_written,
 use Rattle.shard_calls.specs.Table.{meets, change}
 use Rattle.shard_state.specs.State.{Data, seen, world_seen, config_in}
 use Rattle.changes.specs.Makes.{Makes, takes_no_memory}
+use Rattle.shard_core.specs.Causes.{is_told_at_once}
 use Rattle.shard_core.specs.Room.{debt, owed_of, is_unreleased, has_room_kept, owed_less, owed_released, owed_after}
 
 -- ---- a command that changes
@@ -109,10 +110,10 @@ taken_debt : (r : Result ℕ LockTaken) (s : CommandState) → debt (with_taken 
 taken_debt (Ok t) s = refl
 taken_debt (Err held) s = refl
 
-intended_debt : (r : Result (Unit {0}) TopoFault) (s : CommandState) → debt (with_intended r s) ≡ debt s
-intended_debt (Ok u) s = refl
-intended_debt (Err (faults.LockLost current)) s = refl
-intended_debt (Err (faults.IntentStands a)) s = refl
+intended_debt : (a : Alias) (r : Result (Unit {0}) TopoFault) (s : CommandState) → debt (with_intended a r s) ≡ debt s
+intended_debt a (Ok u) s = refl
+intended_debt a (Err (faults.LockLost current)) s = refl
+intended_debt a (Err (faults.IntentStands b)) s = refl
 
 recorded_debt : (a : Alias) (r : Result (Unit {0}) TopoFault) (s : CommandState) → debt (with_recorded a r s) ≡ debt s
 recorded_debt a (Ok u) s = refl
@@ -133,7 +134,7 @@ read_owed w c (Some t) = kept_at w.commands c (with_act (read_act w.topo t)) (λ
 
 intend_owed : (w : World) (c : ℕ) (a : Alias) (o : Option ℕ) → owed_in (by_term o w (intends_in w c a)) ≡ owed_in w
 intend_owed w c a None = refl
-intend_owed w c a (Some t) = kept_at w.commands c (with_intended (answer_intend w.topo t a)) (intended_debt (answer_intend w.topo t a))
+intend_owed w c a (Some t) = kept_at w.commands c (with_intended a (answer_intend w.topo t a)) (intended_debt a (answer_intend w.topo t a))
 
 record_owed : (w : World) (c : ℕ) (a : Alias) (o : Option ℕ) → owed_in (by_term o w (records_in w c a)) ≡ owed_in w
 record_owed w c a None = refl
@@ -273,6 +274,30 @@ room_kept config w (events.Mend x y) met kept = absurd (false≢true kept)
 room_kept config w (events.Lose k) met kept = absurd (false≢true kept)
 room_kept config w (events.Tick ms) met kept = absurd (false≢true kept)
 room_kept config w (events.End c x) met kept = end_takes config w c x (open_command w c) refl met
+
+-- nor does it take any to tell that its condition holds
+pub kept_at_once : (w : World) (e : Event) → has_room_kept w e ≡ true → is_told_at_once e ≡ true
+kept_at_once w (events.Begin name command) kept = refl
+kept_at_once w (events.Take c) kept = refl
+kept_at_once w (events.Read c) kept = refl
+kept_at_once w (events.Intend c a) kept = refl
+kept_at_once w (events.Record c a) kept = refl
+kept_at_once w (events.Release c) kept = refl
+kept_at_once w events.Lapse kept = refl
+kept_at_once w (events.Send c a call) kept = refl
+kept_at_once w (events.Deliver k) kept = refl
+kept_at_once w (events.GiveUp c k) kept = refl
+kept_at_once w (events.Offer r) kept = refl
+kept_at_once w (events.Write c a) kept = refl
+kept_at_once w (events.Tell c) kept = refl
+kept_at_once w (events.Local a) kept = refl
+kept_at_once w (events.Crash a keep) kept = refl
+kept_at_once w (events.Restart a) kept = refl
+kept_at_once w (events.Cut x y) kept = refl
+kept_at_once w (events.Mend x y) kept = refl
+kept_at_once w (events.Lose k) kept = refl
+kept_at_once w (events.Tick ms) kept = refl
+kept_at_once w (events.End c x) kept = kept
 
 -- and no memory
 pub kept_takes_none : (w : World) (e : Event) → has_room_kept w e ≡ true → takes_no_memory e ≡ true

@@ -1,7 +1,7 @@
 -- Managers of tablets to which nothing has happened.
 use Rattle.std.specs.Prelude.{◌≡◌, ℕ, List, take}
 use Rattle.std.specs.List.{AllByRecursion}
-use Rattle.shard_calls.specs.Groups.{Group}
+use Rattle.shard_calls.specs.declared.group.Group.{Group}
 use Rattle.shard_calls.specs.Tablets.{opened}
 use Rattle.tablet_manager.specs.Managed.{Managed, state_of}
 use Rattle.shard_state.specs.State.{tablets_of}

@@ -4,6 +4,7 @@ use Rattle.shard_calls.specs.World.{World, open_command}
 use Rattle.shard_calls.specs.declared.event.Event.{Event}
 use Rattle.shard_calls.specs.declared.event.Event.TheVariants as events
 use Rattle.shard_calls.specs.declared.state.CommandState.{CommandState}
+use Rattle.shard_core.specs.Causes.{is_out_of_memory}
 
 -- an open command owes its End, and before it its Release
 abbrev pub debt : CommandState → ℕ
@@ -17,7 +18,8 @@ abbrev pub is_unreleased : Option CommandState → Bool
 is_unreleased None = false
 is_unreleased (Some s) = not s.released
 
--- the room for this event is kept since its command began: a first Release, and an End
+-- the room for this event is kept since its command began, and it takes no memory: a first Release, and the End of a command that has run out of
+-- memory
 abbrev pub has_room_kept : World → Event → Bool
 has_room_kept w (events.Begin name command) = false
 has_room_kept w (events.Take c) = false
@@ -39,7 +41,7 @@ has_room_kept w (events.Cut x y) = false
 has_room_kept w (events.Mend x y) = false
 has_room_kept w (events.Lose k) = false
 has_room_kept w (events.Tick ms) = false
-has_room_kept w (events.End c x) = true
+has_room_kept w (events.End c x) = is_out_of_memory x
 
 abbrev pub owed_less : ℕ → Option CommandState → ℕ
 owed_less n None = n

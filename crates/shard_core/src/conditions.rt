@@ -1,22 +1,24 @@
-ghost use Rattle.std.specs.Prelude.{◌≡◌};
+ghost use Rattle.std.specs.Prelude.{◌≡◌, ◌&&◌, true, IsOk, IfOk};
 ghost use Rattle.shard_calls.specs.Table.{meets, row_number};
 ghost use Rattle.shard_state.specs.State.{seen, data_of, config_in, AreOfGroup};
 ghost use Rattle.changes.specs.Makes.{IsFound};
+ghost use Rattle.shard_core.specs.Causes.{is_told_at_once};
 
+use crate::ending::{has_cause, has_cause_at_once};
 use arrivals::is_deliverable;
-use causes::has_cause;
 use changes::Found;
+use shard_base::OutOfMemory;
 use shard_calls::Event;
 use shard_state::{
     Fields, is_declared, is_down, is_eligible_alias, is_in_time, is_link, may_record, may_send,
     may_tick, may_write, names_declared, open_of, term_of, took_nothing,
 };
 
-/// Whether the condition of the event's row holds, where this was found of it.
-pub(crate) fn meets(fields: &Fields, event: &Event, found: &Found) -> bool
+/// Whether the condition of the event's row holds, where this was found of it, and whether that is told without memory.
+pub(crate) fn meets_at_once(fields: &Fields, event: &Event, found: &Found) -> bool
     requires group { AreOfGroup (data_of fields.now) }
     requires found { IsFound (seen (data_of fields.now)) event.now found.now }
-    ensures { result ≡ meets (config_in (data_of fields.now)) (seen (data_of fields.now)) event.now }
+    ensures { result ≡ (is_told_at_once event.now && meets (config_in (data_of fields.now)) (seen (data_of fields.now)) event.now) }
 {
     match event {
         Event::Begin { actor, command } => {
@@ -58,7 +60,20 @@ pub(crate) fn meets(fields: &Fields, event: &Event, found: &Found) -> bool
         Event::Mend { x, y } => is_link(fields, x, y),
         Event::Lose { message } => fields.post.message(*message).is_some(),
         Event::Tick { ms } => may_tick(fields, *ms),
+        Event::End { command, answer } => has_cause_at_once(fields, *command, answer),
+    }
+}
+
+/// Whether the condition of the event's row holds, where this was found of it. Only the cause of an answer takes memory to tell.
+pub(crate) fn meets(fields: &Fields, event: &Event, found: &Found) -> Result<bool, OutOfMemory>
+    requires group { AreOfGroup (data_of fields.now) }
+    requires found { IsFound (seen (data_of fields.now)) event.now found.now }
+    ensures met { IfOk result (λ met. met ≡ meets (config_in (data_of fields.now)) (seen (data_of fields.now)) event.now) }
+    ensures at_once { is_told_at_once event.now ≡ true → IsOk result }
+{
+    match event {
         Event::End { command, answer } => has_cause(fields, *command, answer),
+        _ => Ok(meets_at_once(fields, event, found)),
     }
 }
 

@@ -2,6 +2,7 @@
 #![tactic(auto)]
 
 mod conditions;
+mod ending;
 mod finding;
 mod opening;
 mod room;

@@ -1,4 +1,4 @@
-ghost use Rattle.std.specs.Prelude.{◌≡◌, ◌<◌, ◌≤◌, ◌↔◌, ◌++◌, ◌∷◌, ◌+◌, ◌-◌, ◌^◌, [], ℕ, List, true, false, length, nat_lt, IsTrue, IfOk, IsOk, OnOk, OnErr, IsErrOf, IfSome, MatchOption, Some, None, vec_len, vec_capacity};
+ghost use Rattle.std.specs.Prelude.{◌≡◌, ◌<◌, ◌≤◌, ◌↔◌, ◌&&◌, ◌++◌, ◌∷◌, ◌+◌, ◌-◌, ◌^◌, [], ℕ, List, true, false, length, nat_lt, IsTrue, IfOk, IsOk, OnOk, OnErr, IsErrOf, IfSome, MatchOption, Some, None, vec_len, vec_capacity};
 ghost use Rattle.std.specs.Option.{option_copied, option_map};
 ghost use Rattle.shard_names.specs.Tablets.{AreTablets, tablet_of};
 ghost use Rattle.tablet_manager.specs.Managed.{state_of};
@@ -9,6 +9,7 @@ ghost use Rattle.shard_state.specs.State.{Data, data_of, seen, config_in, world_
 ghost use Rattle.arrivals.specs.Arrivals.{next_due, next_offered};
 ghost use Rattle.changes.specs.Makes.{IsFound};
 ghost use Rattle.changes.specs.Makes as rows;
+ghost use Rattle.shard_core.specs.Causes.{is_told_at_once};
 ghost use Rattle.shard_core.specs.Room.{has_room_kept};
 ghost use Rattle.shard_core.specs.Kept.{Makes, kept_of, world_of};
 ghost use Rattle.shard_core.specs.Leads.{Leads};
@@ -16,7 +17,7 @@ ghost use Rattle.shard_core.specs.Notes.{AreInPlace};
 ghost use Rattle.shard_core.specs.Spares.{IsSpare};
 ghost use Rattle.shard_calls.specs.declared.event.Note.{Note as Noted};
 
-use crate::conditions::{meets, row_number};
+use crate::conditions::{meets, meets_at_once, row_number};
 use crate::finding::find;
 use crate::opening::{opened_actors, opened_managers};
 use crate::room::owed_after;
@@ -36,8 +37,8 @@ use topo_lock::{Intent, Record, Topo};
 /// Why the machine made no step. It then stands as it was.
 #[derive(Clone, Copy, Debug, PartialEq, Eq)]
 pub enum Refused {
-    /// The condition of the event's row does not hold. Rows count from 1: Begin, Take, Read, Intend, Record, Release, Lapse, Send, Deliver,
-    /// GiveUp, Offer, Write, Tell, Local, Crash, Restart, Cut and Mend, Lose, Tick, End.
+    /// The condition of the event's row does not hold. The rows are Begin 1, Take 2, Read 3, Intend 4, Record 5, Release 7, Lapse 8, Send 9,
+    /// Deliver 10, GiveUp 11, Offer 12, Write 13, Tell 14, Local 15, Crash 16, Restart 17, Cut and Mend 18, Lose 19, Tick 20, End 22.
     Unmet { row: u8 },
     /// The history has all the steps that it may have.
     Full,
@@ -125,25 +126,41 @@ fn make(
 }
 
 /// Whether the condition of the event's row holds in the world to which the history has led.
-fn is_met(fields: &Fields, history: &History, event: &Event, found: &Found) -> bool
+fn is_met(
+    fields: &Fields,
+    history: &History,
+    event: &Event,
+    found: &Found,
+) -> Result<bool, OutOfMemory>
     requires leads { Leads (data_of fields.now) history.now.steps.items }
     requires found { IsFound (seen (data_of fields.now)) event.now found.now }
-    ensures { result ≡ meets (config_in (data_of fields.now)) (world_of (kept_of (data_of fields.now) history.now.steps.items [])) event.now }
+    ensures met { IfOk result (λ met. met ≡ meets (config_in (data_of fields.now)) (world_of (kept_of (data_of fields.now) history.now.steps.items [])) event.now) }
+    ensures at_once { is_told_at_once event.now ≡ true → IsOk result }
 {
     let _past = history;
     meets(fields, event, found)
 }
 
-/// What the row of the event goes by, if its condition holds.
-fn look(fields: &Fields, history: &History, event: &Event) -> Option<Found>
+/// The same, where it takes no memory to tell.
+fn is_met_at_once(fields: &Fields, history: &History, event: &Event, found: &Found) -> bool
     requires leads { Leads (data_of fields.now) history.now.steps.items }
-    ensures { MatchOption result (meets (config_in (data_of fields.now)) (world_of (kept_of (data_of fields.now) history.now.steps.items [])) event.now ≡ false) (λ found. (meets (config_in (data_of fields.now)) (world_of (kept_of (data_of fields.now) history.now.steps.items [])) event.now ≡ true) × IsFound (seen (data_of fields.now)) event.now found) }
+    requires found { IsFound (seen (data_of fields.now)) event.now found.now }
+    ensures { result ≡ (is_told_at_once event.now && meets (config_in (data_of fields.now)) (world_of (kept_of (data_of fields.now) history.now.steps.items [])) event.now) }
+{
+    let _past = history;
+    meets_at_once(fields, event, found)
+}
+
+/// What the row of the event goes by, if its condition holds.
+fn look(fields: &Fields, history: &History, event: &Event) -> Result<Option<Found>, OutOfMemory>
+    requires leads { Leads (data_of fields.now) history.now.steps.items }
+    ensures found { IfOk result (λ found. MatchOption found (meets (config_in (data_of fields.now)) (world_of (kept_of (data_of fields.now) history.now.steps.items [])) event.now ≡ false) (λ found. (meets (config_in (data_of fields.now)) (world_of (kept_of (data_of fields.now) history.now.steps.items [])) event.now ≡ true) × IsFound (seen (data_of fields.now)) event.now found)) }
+    ensures at_once { is_told_at_once event.now ≡ true → IsOk result }
 {
     let found = find(fields, event);
-    if is_met(fields, history, event, &found) {
-        Some(found)
-    } else {
-        None
+    match is_met(fields, history, event, &found)? {
+        true => Ok(Some(found)),
+        false => Ok(None),
     }
 }
 
@@ -163,6 +180,13 @@ fn unmet(event: Event) -> Refused
     Refused::Unmet {
         row: row_number(&event),
     }
+}
+
+fn starved(event: Event) -> Refused
+    ensures { result ≡ Refused.OutOfMemory }
+{
+    let _not_made = event;
+    Refused::OutOfMemory
 }
 
 fn full(event: Event) -> Refused
@@ -309,12 +333,23 @@ impl Shard {
         manager_of(&self.fields.managers, alias)
     }
 
-    /// Whether the condition of the event's row holds. It takes no memory.
-    pub fn meets(&self, event: &Event) -> bool
-        ensures { result ≡ meets self.now.config (world_of self.now) event.now }
+    /// Whether the condition of the event's row holds. The only error is want of memory: the cause of an answer takes some to tell, unless the
+    /// answer is that memory ran out.
+    pub fn meets(&self, event: &Event) -> Result<bool, OutOfMemory>
+        ensures met { IfOk result (λ met. met ≡ meets self.now.config (world_of self.now) event.now) }
+        ensures at_once { is_told_at_once event.now ≡ true → IsOk result }
     {
         let found = find(&self.fields, event);
         is_met(&self.fields, &self.history, event, &found)
+    }
+
+    /// Whether the condition of the event's row holds, and takes no memory to tell: it does for all but the cause of an answer other than that
+    /// memory ran out. It takes no memory.
+    pub fn meets_at_once(&self, event: &Event) -> bool
+        ensures { result ≡ (is_told_at_once event.now && meets self.now.config (world_of self.now) event.now) }
+    {
+        let found = find(&self.fields, event);
+        is_met_at_once(&self.fields, &self.history, event, &found)
     }
 
     /// The message that comes next of itself: the first that has not come to its receiver, and may. It takes no memory.
@@ -348,19 +383,22 @@ impl Shard {
         }
     }
 
-    /// One step of the machine. A refusal changes nothing. A command's first Release and its End take no memory.
+    /// One step of the machine. A refusal changes nothing. A command's first Release takes no memory, and neither does its End where it ends since
+    /// memory ran out.
     pub fn apply(&mut self, event: Event) -> Result<Reply, Refused>
         ensures made { OnOk result (Makes self.old self.new event) }
         ensures reply { IfOk result (λ reply. reply ≡ answer self.old.config (world_of self.old) event) }
-        ensures unmet { IsErrOf result (Refused.Unmet (row_number event)) ↔ (meets self.old.config (world_of self.old) event ≡ false) }
+        ensures unmet { IsErrOf result (Refused.Unmet (row_number event)) ↔ ((meets self.old.config (world_of self.old) event ≡ false) × (IsErrOf result Refused.OutOfMemory → ⊥)) }
         ensures row { (row : ℕ) → IsErrOf result (Refused.Unmet row) → row ≡ row_number event }
-        ensures full { IsErrOf result Refused.Full ↔ (Met self.old.config (world_of self.old) event × (length self.old.steps ≡ MOST_STEPS)) }
+        ensures full { IsErrOf result Refused.Full ↔ (Met self.old.config (world_of self.old) event × (length self.old.steps ≡ MOST_STEPS) × (IsErrOf result Refused.OutOfMemory → ⊥)) }
+        ensures at_once { is_told_at_once event ≡ true → IsErrOf result Refused.OutOfMemory → Met self.old.config (world_of self.old) event × (length self.old.steps < MOST_STEPS) }
         ensures err { OnErr result (self.new ≡ self.old) }
         ensures kept { has_room_kept (world_of self.old) event ≡ true → IsErrOf result Refused.OutOfMemory → ⊥ }
     {
         let found = match look(&self.fields, &self.history, &event) {
-            Some(found) => found,
-            None => return Err(unmet(event)),
+            Ok(Some(found)) => found,
+            Ok(None) => return Err(unmet(event)),
+            Err(OutOfMemory) => return Err(starved(event)),
         };
         let found = match unless_full(&self.history, found) {
             Some(found) => found,

@@ -1,3 +1,4 @@
+use Rattle.planned.proofs.Examples as examples
 use Rattle.planned.proofs.ReachedLemmas as worlds
 use Rattle.planned.proofs.laws.next_is_met.Goals as goal
 

@@ -20,27 +20,30 @@ make-requires-clause-owed c =
     omega (arith, within)
 
 pub invariant_of-self : goal.invariant_of-self
-invariant_of-self c = record {
-  leads = c.in-Ok.ensures.leads;
-  owed = owed_becomes (data_of c.self.inside.fields) (data_of c.make.new.fields) c.args.event _ c.self.inside.owed c.owed_after-owed.result
-      (sym (met_there (data_of c.self.inside.fields) c.self.inside.history.steps.items c.args.event c.self.invariant.leads) ∙ c.in-Some.ensures.0) c.in-Ok.ensures.made c.self.invariant.owed c.owed_after-owed.ensures;
-  room = c.in-Ok.ensures.room;
-  notes = rw ((c.in-Ok.ensures.step c.self.inside.history.notes.items).steps) (one_step c.self.inside.history.steps.items _ c.self.inside.history.notes.items c.self.invariant.notes);
-  few_notes = c.self.invariant.few_notes;
-}
+invariant_of-self c =
+    let found = rw c.in-Ok-Some.field-0-is at c.in-Ok-Some.ensures.found in
+    record {
+      leads = c.in-Ok.ensures.leads;
+      owed = owed_becomes (data_of c.self.inside.fields) (data_of c.make.new.fields) c.args.event _ c.self.inside.owed c.owed_after-owed.result
+          (sym (met_there (data_of c.self.inside.fields) c.self.inside.history.steps.items c.args.event c.self.invariant.leads) ∙ found.0) c.in-Ok.ensures.made c.self.invariant.owed c.owed_after-owed.ensures;
+      room = c.in-Ok.ensures.room;
+      notes = rw ((c.in-Ok.ensures.step c.self.inside.history.notes.items).steps) (one_step c.self.inside.history.steps.items _ c.self.inside.history.notes.items c.self.invariant.notes);
+      few_notes = c.self.invariant.few_notes;
+    }
 
 pub returns-in-Ok-clause-made : goal.returns-in-Ok-clause-made
 returns-in-Ok-clause-made c =
     subst (λ (k : Kept). Makes k (kept_of (data_of c.make.new.fields) c.make.new.steps.items c.self.inside.history.notes.items) c.args.event) c.self.view_is
     (c.in-Ok.ensures.step c.self.inside.history.notes.items)
 
-pub returns-in-Err-clause-kept : goal.returns-in-Err-clause-kept
-returns-in-Err-clause-kept c kept err =
+pub returns-in-Err-make-clause-kept : goal.returns-in-Err-make-clause-kept
+returns-in-Err-make-clause-kept c kept err =
+    let found = rw c.in-Ok-Some.field-0-is at c.in-Ok-Some.ensures.found in
     let kept_data = data_of c.self.inside.fields in
     let world = sym (ap (λ (k : Kept). world_of k) c.self.view_is) ∙ sym c.self.invariant.leads.world in
     let here : has_room_kept (seen kept_data) c.args.event ≡ true =
     sym (same_room kept_data c.self.inside.history.steps.items c.args.event) ∙ sym (ap (λ (w : World). has_room_kept w c.args.event) world) ∙ kept in
     let met : meets (config_in kept_data) (seen kept_data) c.args.event ≡ true =
-    sym (met_there kept_data c.self.inside.history.steps.items c.args.event c.self.invariant.leads) ∙ c.in-Some.ensures.0 in
-    false≢true (c.in-Err.ensures.kept here
+    sym (met_there kept_data c.self.inside.history.steps.items c.args.event c.self.invariant.leads) ∙ found.0 in
+    false≢true (c.in-Err-make.ensures.kept here
     (room_of_kept kept_data c.args.event c.self.inside.owed c.owed_after-owed.result _ _ met here c.self.invariant.owed c.owed_after-owed.ensures c.self.invariant.room))

@@ -6,8 +6,5 @@ use Rattle.shard_core.proofs.shard.Shard.meets.Goals as goal
 pub find-found-requires-clause-addressed : goal.find-found-requires-clause-addressed
 find-found-requires-clause-addressed c = addressed (data_of c.self.inside.fields) c.self.invariant.leads.sound
 
-pub returns : goal.returns
-returns c = c.is_met.ensures ∙ sym (met_is (data_of c.self.inside.fields) c.self.inside.history.steps.items c.self.inside.history.notes.items _ c.args.event.now c.self.view_is)
-
 pub find-found-requires-clause-group : goal.find-found-requires-clause-group
 find-found-requires-clause-group c = c.self.invariant.leads.fits.group
