@@ -13,7 +13,7 @@ use Rattle.shard_names.specs.declared.tablet.Tablet.{Tablet as TabletData}
 use Rattle.shard_names.specs.Tablets.{alias_eq, ServersDiffer}
 use Rattle.shard_names.proofs.TabletLemmas.{alias_eq-Decides}
 use Rattle.durability.specs.declared.policy.Durability.{Durability}
-use Rattle.shard_calls.specs.declared.command.Command.TheVariants.{Planned, External, Write, Show}
+use Rattle.shard_calls.specs.declared.command.Command.TheVariants.{Planned, Emergency, External, Write, Show, GetShard, GetTablets}
 use Rattle.shard_script.specs.declared.line.Line.{Line}
 use Rattle.shard_script.specs.declared.line.Line.TheVariants.{Shard, Tablet, Act}
 use Rattle.shard_script.specs.declared.script.Action.{Action}
@@ -22,7 +22,7 @@ use Rattle.shard_script.specs.declared.script.Script.{Script}
 use Rattle.shard_script.specs.Script.{FitsShard, read_on, read_lines, admits, with_line, has_alias, has_server, in_place, empty_script}
 use Rattle.shard_script.specs.Grammar.{IsShardLine, IsTabletLine, IsActionLine, Says, AliasesDiffer, IsOfShard, IsShardScript, IsScript, Spell, told_lines}
 use Rattle.shard_script.specs.Grammar.IsScript.{is_empty, is_shard_script}
-use Rattle.shard_script.proofs.OptionLemmas.{and_both, not_true}
+use Rattle.script_commands.proofs.OptionLemmas.{and_both, not_true}
 use Rattle.shard_script.proofs.LineLemmas.{says_of}
 use Rattle.shard_script.proofs.TabletsInOrder.{or_false, any-in_place, permuted-in_place, All-map}
 use Rattle.shard_script.proofs.ScriptLemmas.{line_with_bytes, fits_lines}
@@ -173,13 +173,19 @@ permuted_all ds = subst (λ (xs : List TabletData). IsPermutation xs (placed [] 
 
 of_this : (o : Option ShardName) (name : ShardName) → o ≡ Some name → (x : Action) → FitsShard o x → IsOfShard name x
 of_this o name is (actions.Play (Planned n given avoid expected timeout allow_cross_cell) k) h = let e : Some n ≡ Some name = sym h.0 ∙ is in cc
+of_this o name is (actions.Play (Emergency n given ignored expected timeout prevent_cross_cell) k) h = let e : Some n ≡ Some name = sym h.0 ∙ is in cc
 of_this o name is (actions.Play (External a) k) h = tt
 of_this o name is (actions.Play (Write to) k) h = tt
 of_this o name is (actions.Play (Show a) k) h = tt
+of_this o name is (actions.Play (GetShard n) k) h = let e : Some n ≡ Some name = sym h.0 ∙ is in cc
+of_this o name is (actions.Play (GetTablets n) k) h = let e : Some n ≡ Some name = sym h.0 ∙ is in cc
 of_this o name is (actions.Start starter (Planned n given avoid expected timeout allow_cross_cell)) h = let e : Some n ≡ Some name = sym h ∙ is in cc
+of_this o name is (actions.Start starter (Emergency n given ignored expected timeout prevent_cross_cell)) h = let e : Some n ≡ Some name = sym h ∙ is in cc
 of_this o name is (actions.Start starter (External a)) h = tt
 of_this o name is (actions.Start starter (Write to)) h = tt
 of_this o name is (actions.Start starter (Show a)) h = tt
+of_this o name is (actions.Start starter (GetShard n)) h = let e : Some n ≡ Some name = sym h ∙ is in cc
+of_this o name is (actions.Start starter (GetTablets n)) h = let e : Some n ≡ Some name = sym h ∙ is in cc
 of_this o name is (actions.Turn starter pumps) h = tt
 of_this o name is (actions.Finish starter) h = tt
 of_this o name is actions.Settle h = tt

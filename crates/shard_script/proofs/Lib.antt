@@ -1,9 +1,6 @@
-pub mod OptionLemmas
-pub mod CommandLemmas
+pub mod ServerLemmas
 pub mod LineLemmas
-pub mod NumberLemmas
 pub mod PolicyLemmas
-pub mod DurationLemmas
 pub mod TabletsInOrder
 pub mod NameLemmas
 pub mod DeclaredLemmas

@@ -14,23 +14,24 @@ use Rattle.shard_names.specs.declared.alias.Alias.{Alias}
 use Rattle.shard_calls.specs.declared.event.Link.{Link}
 use Rattle.shard_calls.specs.declared.event.Side.{Side}
 use Rattle.shard_calls.specs.declared.event.Side.TheVariants as sides
-use Rattle.shard_script.specs.declared.command.Given.{Given}
+use Rattle.script_commands.specs.declared.command.Given.{Given}
 use Rattle.shard_script.specs.declared.line.Line.{Line}
 use Rattle.shard_script.specs.declared.line.Line.TheVariants.{Shard, Tablet, Act}
 use Rattle.shard_script.specs.declared.script.Action.{Action}
 use Rattle.shard_script.specs.declared.script.Action.TheVariants.{Play, Start, Turn, Finish, Settle, Local, Crash, Restart, Cut, Mend, Lose, Repeat, Lapse, Tick}
-use Rattle.shard_script.specs.Numbers.{number_reading, number_within, duration_reading}
+use Rattle.script_commands.specs.Numbers.{number_reading, number_within, duration_reading}
 use Rattle.shard_script.specs.Names.{name_reading}
 use Rattle.shard_script.specs.Aliases.{are_ends}
-use Rattle.shard_script.specs.Commands.{command_of_two, command_of_four}
-use Rattle.shard_script.specs.Lines.{words_of, server_reading, kind_reading, policy_reading, shard_line, tablet_line, play_line, start_line, turn_line, finish_line, tick_line, local_line, crash_line, restart_line, side_reading, link_reading, cut_line, mend_line, lose_line, repeat_line, one_word, tablet_or_message, two_words, three_words, four_words, six_words, line_of_words, line_of}
-use Rattle.shard_script.specs.Grammar.{IsTypeWord, IsCommand, IsOfTablet, IsSide, IsLinkLine, Says}
-use Rattle.shard_script.proofs.OptionLemmas.{cond_some, bind_some, only_if_some, ok_some, same_bytes, choose}
-use Rattle.shard_script.proofs.NumberLemmas.{number_of, number_small, within_of}
-use Rattle.shard_script.proofs.DurationLemmas.{duration_of}
+use Rattle.script_commands.specs.Commands.{command_of}
+use Rattle.shard_script.specs.Lines.{words_of, server_reading, kind_reading, policy_reading, shard_line, tablet_line, play_line, start_line, turn_line, finish_line, tick_line, local_line, crash_line, restart_line, side_reading, link_reading, cut_line, mend_line, lose_line, repeat_line, one_word, tablet_or_message, two_words, three_words, four_words, plain_line, begins_command, started_line, line_of_words, line_of}
+use Rattle.script_commands.specs.Grammar.{IsCommand, IsOfTablet}
+use Rattle.shard_script.specs.Grammar.{IsTypeWord, IsSide, IsLinkLine, Says}
+use Rattle.script_commands.proofs.OptionLemmas.{cond_some, bind_some, only_if_some, ok_some, same_bytes, choose}
+use Rattle.script_commands.proofs.NumberLemmas.{number_of, number_small, within_of}
+use Rattle.script_commands.proofs.DurationLemmas.{duration_of}
 use Rattle.shard_script.proofs.NameLemmas.{name_of}
 use Rattle.shard_script.proofs.PolicyLemmas.{policy_of}
-use Rattle.shard_script.proofs.CommandLemmas.{IsGiven, two_of, four_of}
+use Rattle.script_commands.proofs.CommandLemmas.{IsGiven, given_of}
 
 -- ---- from what is read to what is said
 
@@ -225,8 +226,7 @@ says_one line a x words h =
 
 says_tablet_or_message : (line a b : List ℕ) (x : Line) → words_of line ≡ a ∷ b ∷ [] → tablet_or_message a b ≡ Some x → Says line x
 says_tablet_or_message line a b x words h =
-    let if_command : Option Line = play_line (command_of_two a b) in
-    let if_repeat : Option Line = cond (bytes_eq a (codes "repeat")) (repeat_line b) if_command in
+    let if_repeat : Option Line = cond (bytes_eq a (codes "repeat")) (repeat_line b) None in
     let if_lose : Option Line = cond (bytes_eq a (codes "lose")) (lose_line b) if_repeat in
     choose (Says line x) (bytes_eq a (codes "local")) (local_line b) (cond (bytes_eq a (codes "restart")) (restart_line b) if_lose) x h
     (λ is got. says_local line b x (first_is line a (codes "local") (b ∷ []) words is) got)
@@ -234,9 +234,7 @@ says_tablet_or_message line a b x words h =
     (λ is got. says_restart line b x (first_is line a (codes "restart") (b ∷ []) words is) got)
     (λ behind_restart. choose (Says line x) (bytes_eq a (codes "lose")) (lose_line b) if_repeat x behind_restart
     (λ is got. says_lose line b x (first_is line a (codes "lose") (b ∷ []) words is) got)
-    (λ behind_lose. choose (Says line x) (bytes_eq a (codes "repeat")) (repeat_line b) if_command x behind_lose
-    (λ is got. says_repeat line b x (first_is line a (codes "repeat") (b ∷ []) words is) got)
-    (λ last. says_play line (a ∷ b ∷ []) (command_of_two a b) x words (λ g got. two_of a b g got) last))))
+    (λ last. let p = cond_some (bytes_eq a (codes "repeat")) (repeat_line b) x last in says_repeat line b x (first_is line a (codes "repeat") (b ∷ []) words p.0) p.1)))
 
 says_two : (line a b : List ℕ) (x : Line) → words_of line ≡ a ∷ b ∷ [] → two_words a b ≡ Some x → Says line x
 says_two line a b x words h =
@@ -260,41 +258,39 @@ says_three line a b c x words h =
 
 says_four : (line a b c d : List ℕ) (x : Line) → words_of line ≡ a ∷ b ∷ c ∷ d ∷ [] → four_words a b c d ≡ Some x → Says line x
 says_four line a b c d x words h =
-    let if_command : Option Line = play_line (command_of_four a b c d) in
-    let if_start : Option Line = cond (bytes_eq a (codes "start")) (start_line b (command_of_two c d)) if_command in
-    choose (Says line x) (bytes_eq a (codes "tablet")) (tablet_line b c d) (cond (bytes_eq a (codes "crash")) (crash_line b c d) if_start) x h
+    choose (Says line x) (bytes_eq a (codes "tablet")) (tablet_line b c d) (cond (bytes_eq a (codes "crash")) (crash_line b c d) None) x h
     (λ is got. says_tablet line b c d x (first_is line a (codes "tablet") (b ∷ c ∷ d ∷ []) words is) got)
-    (λ behind_tablet. choose (Says line x) (bytes_eq a (codes "crash")) (crash_line b c d) if_start x behind_tablet
-    (λ is got. says_crash line b c d x (first_is line a (codes "crash") (b ∷ c ∷ d ∷ []) words is) got)
-    (λ behind_crash. choose (Says line x) (bytes_eq a (codes "start")) (start_line b (command_of_two c d)) if_command x behind_crash
-    (λ is got. says_start line b (c ∷ d ∷ []) (command_of_two c d) x (first_is line a (codes "start") (b ∷ c ∷ d ∷ []) words is) (λ g was. two_of c d g was) got)
-    (λ last. says_play line (a ∷ b ∷ c ∷ d ∷ []) (command_of_four a b c d) x words (λ g was. four_of a b c d g was) last)))
+    (λ last. let p = cond_some (bytes_eq a (codes "crash")) (crash_line b c d) x last in says_crash line b c d x (first_is line a (codes "crash") (b ∷ c ∷ d ∷ []) words p.0) p.1)
 
-says_six : (line a b c d e f : List ℕ) (x : Line) → words_of line ≡ a ∷ b ∷ c ∷ d ∷ e ∷ f ∷ [] → six_words a b c d e f ≡ Some x → Says line x
-says_six line a b c d e f x words h =
-    let p = cond_some (bytes_eq a (codes "start")) (start_line b (command_of_four c d e f)) x h in
-    says_start line b (c ∷ d ∷ e ∷ f ∷ []) (command_of_four c d e f) x (first_is line a (codes "start") (b ∷ c ∷ d ∷ e ∷ f ∷ []) words p.0) (λ g was. four_of c d e f g was) p.1
+too_many : (a b c d e : List ℕ) (ws : List (List ℕ)) → plain_line a (b ∷ c ∷ d ∷ e ∷ ws) ≡ None
+too_many a b c d e ws =
+    let none : eqb (length (b ∷ c ∷ d ∷ e ∷ ws)) 0 ≡ false = grind (arith, nat_tests) in
+    let one : eqb (length (b ∷ c ∷ d ∷ e ∷ ws)) 1 ≡ false = grind (arith, nat_tests) in
+    let two : eqb (length (b ∷ c ∷ d ∷ e ∷ ws)) 2 ≡ false = grind (arith, nat_tests) in
+    let three : eqb (length (b ∷ c ∷ d ∷ e ∷ ws)) 3 ≡ false = grind (arith, nat_tests) in
+    rw (none, one, two, three) refl
 
-too_many : (a b c d e f g : List ℕ) (ws : List (List ℕ)) → line_of_words (a ∷ b ∷ c ∷ d ∷ e ∷ f ∷ g ∷ ws) ≡ None
-unfolding line_of_words
-too_many a b c d e f g ws =
-    let one : eqb (length (a ∷ b ∷ c ∷ d ∷ e ∷ f ∷ g ∷ ws)) 1 ≡ false = grind (arith, nat_tests) in
-    let two : eqb (length (a ∷ b ∷ c ∷ d ∷ e ∷ f ∷ g ∷ ws)) 2 ≡ false = grind (arith, nat_tests) in
-    let three : eqb (length (a ∷ b ∷ c ∷ d ∷ e ∷ f ∷ g ∷ ws)) 3 ≡ false = grind (arith, nat_tests) in
-    let four : eqb (length (a ∷ b ∷ c ∷ d ∷ e ∷ f ∷ g ∷ ws)) 4 ≡ false = grind (arith, nat_tests) in
-    let six : eqb (length (a ∷ b ∷ c ∷ d ∷ e ∷ f ∷ g ∷ ws)) 6 ≡ false = grind (arith, nat_tests) in
-    rw (one, two, three, four, six) refl
+says_plain : (line head : List ℕ) (words : List (List ℕ)) (x : Line) → words_of line ≡ head ∷ words → plain_line head words ≡ Some x → Says line x
+says_plain line a [] x e h = says_one line a x e h
+says_plain line a (b ∷ []) x e h = says_two line a b x e h
+says_plain line a (b ∷ c ∷ []) x e h = says_three line a b c x e h
+says_plain line a (b ∷ c ∷ d ∷ []) x e h = says_four line a b c d x e h
+says_plain line a (b ∷ c ∷ d ∷ f ∷ ws) x e h = absurd (let none : None ≡ Some x = sym (too_many a b c d f ws) ∙ h in cc)
+
+says_started : (line : List ℕ) (words : List (List ℕ)) (x : Line) → words_of line ≡ codes "start" ∷ words → started_line words ≡ Some x → Says line x
+says_started line [] x e h = absurd (cc)
+says_started line (name ∷ words) x e h = says_start line name words (command_of words) x e (λ g got. given_of words g got) h
 
 says_words : (line : List ℕ) (words : List (List ℕ)) (x : Line) → words_of line ≡ words → line_of_words words ≡ Some x → Says line x
 unfolding line_of_words
 says_words line [] x e h = absurd (cc)
-says_words line (a ∷ []) x e h = says_one line a x e h
-says_words line (a ∷ b ∷ []) x e h = says_two line a b x e h
-says_words line (a ∷ b ∷ c ∷ []) x e h = says_three line a b c x e h
-says_words line (a ∷ b ∷ c ∷ d ∷ []) x e h = says_four line a b c d x e h
-says_words line (a ∷ b ∷ c ∷ d ∷ f ∷ []) x e h = absurd (cc)
-says_words line (a ∷ b ∷ c ∷ d ∷ f ∷ g ∷ []) x e h = says_six line a b c d f g x e h
-says_words line (a ∷ b ∷ c ∷ d ∷ f ∷ g ∷ k ∷ ws) x e h = absurd (let none : None ≡ Some x = sym (too_many a b c d f g k ws) ∙ h in cc)
+says_words line (head ∷ words) x e h =
+    let if_command : Option Line = cond (begins_command head) (play_line (command_of (head ∷ words))) (plain_line head words) in
+    choose (Says line x) (bytes_eq head (codes "start")) (started_line words) if_command x h
+    (λ is got. says_started line words x (first_is line head (codes "start") words e is) got)
+    (λ others. choose (Says line x) (begins_command head) (play_line (command_of (head ∷ words))) (plain_line head words) x others
+    (λ is got. says_play line (head ∷ words) (command_of (head ∷ words)) x e (λ g was. given_of (head ∷ words) g was) got)
+    (λ last. says_plain line head words x e last))
 
 pub says_of : (line : List ℕ) (x : Line) → line_of line ≡ Some x → Says line x
 says_of line x h = says_words line (words_of line) x refl h

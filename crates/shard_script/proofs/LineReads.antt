@@ -1,5 +1,5 @@
 -- What a line says is read from it.
-use Rattle.std.proofs.Common.{◌≡◌, ℕ, List, ◌∷◌, ◌++◌, Bool, false, cond, Option, Some, None, Result, Ok, refl, sym, ap, ◌∙◌, arith}
+use Rattle.std.proofs.Common.{◌≡◌, ℕ, List, ◌∷◌, ◌++◌, Bool, false, cond, Option, Some, None, Result, Ok, refl, sym, ap, subst, ◌∙◌, arith}
 use Rattle.std.specs.Prelude.{codes, option_and_then}
 use Rattle.std.specs.Result.{result_ok}
 use Rattle.std.specs.Str.{bytes_eq}
@@ -14,24 +14,26 @@ use Rattle.shard_names.specs.declared.tablet.TabletType.TheVariants.{Replica, Rd
 use Rattle.durability.specs.declared.policy.Durability.{Durability}
 use Rattle.durability.specs.Policies.{policy_name}
 use Rattle.shard_calls.specs.declared.command.Command.{Command}
-use Rattle.shard_calls.specs.declared.command.Command.TheVariants.{Planned, External, Write, Show}
+use Rattle.shard_calls.specs.declared.command.Command.TheVariants.{Planned, Emergency, External, Write, Show, GetShard, GetTablets}
 use Rattle.shard_calls.specs.declared.event.Link.{Link}
 use Rattle.shard_calls.specs.declared.event.Side.{Side}
 use Rattle.shard_calls.specs.declared.event.Side.TheVariants as sides
-use Rattle.shard_script.specs.declared.command.Given.{Given}
+use Rattle.script_commands.specs.declared.command.Given.{Given}
 use Rattle.shard_script.specs.declared.line.Line.{Line}
 use Rattle.shard_script.specs.declared.line.Line.TheVariants.{Shard, Tablet, Act}
 use Rattle.shard_script.specs.declared.script.Action.TheVariants.{Play, Start, Turn, Finish, Settle, Local, Crash, Restart, Cut, Mend, Lose, Repeat, Lapse, Tick}
-use Rattle.shard_script.specs.Numbers.{number_reading, number_within}
+use Rattle.script_commands.specs.Numbers.{number_reading, number_within}
 use Rattle.shard_script.specs.Names.{name_reading}
 use Rattle.shard_script.specs.Aliases.{are_ends}
 use Rattle.shard_script.specs.Lines.{words_of, server_reading, kind_reading, policy_reading, shard_line, tablet_line, play_line, start_line, turn_line, finish_line, tick_line, local_line, crash_line, restart_line, side_reading, link_reading, cut_line, mend_line, lose_line, repeat_line, line_of_words, line_of}
-use Rattle.shard_script.specs.Grammar.{IsShardLine, IsTypeWord, IsTabletLine, IsCommand, IsOfTablet, IsStartLine, IsTurnLine, IsFinishLine, IsSettleLine, IsLapseLine, IsTickLine, IsCrashLine, IsSide, IsLinkLine, IsMessageLine, Says}
-use Rattle.shard_script.proofs.OptionLemmas.{same_bytes}
-use Rattle.shard_script.proofs.NumberLemmas.{number_reads, within_reads}
-use Rattle.shard_script.proofs.DurationLemmas.{duration_reads}
+use Rattle.script_commands.specs.Commands.{command_of}
+use Rattle.script_commands.specs.Grammar.{IsCommand, IsOfTablet}
+use Rattle.shard_script.specs.Grammar.{IsShardLine, IsTypeWord, IsTabletLine, IsStartLine, IsTurnLine, IsFinishLine, IsSettleLine, IsLapseLine, IsTickLine, IsCrashLine, IsSide, IsLinkLine, IsMessageLine, Says}
+use Rattle.script_commands.proofs.OptionLemmas.{same_bytes}
+use Rattle.script_commands.proofs.NumberLemmas.{number_reads, within_reads}
+use Rattle.script_commands.proofs.DurationLemmas.{duration_reads}
 use Rattle.shard_script.proofs.NameLemmas.{name_reads, not_same}
-use Rattle.shard_script.proofs.CommandLemmas.{planned_is, write_is, write_to_is, show_is}
+use Rattle.script_commands.proofs.CommandLemmas.{command_is}
 use Rattle.shard_script.proofs.PolicyLemmas.{policy_is}
 
 shard_read : (line : List ℕ) (name : ShardName) (policy : Durability) → IsShardLine line name policy → line_of line ≡ Some (Shard name policy)
@@ -54,21 +56,22 @@ tablet_read line t h =
     ∙ ap (λ (o : Option TabletType). option_and_then (λ k. server_reading h.server_text >>= (λ s. Some (Tablet (record { alias = t.alias; server = s; kind = k })))) o) (kind_is h.type_text t.kind h.type_is)
     ∙ ap (λ (o : Option (List ℕ)). option_and_then (λ s. Some (Tablet (record { alias = t.alias; server = s; kind = t.kind }))) o) h.server_is
 
+-- words of a command are no `start`
+played : (words : List (List ℕ)) (command : Command) (n : ℕ) → IsCommand words command n → line_of_words words ≡ play_line (command_of words)
+unfolding line_of_words
+played words (Planned name given avoid expected timeout allow_cross_cell) n h = subst (λ (ws : List (List ℕ)). line_of_words ws ≡ play_line (command_of ws)) (sym h.0.words_are) refl
+played words (Emergency name given ignored expected timeout prevent_cross_cell) n h = subst (λ (ws : List (List ℕ)). line_of_words ws ≡ play_line (command_of ws)) (sym h.0.words_are) refl
+played words (External a) n h = subst (λ (ws : List (List ℕ)). line_of_words ws ≡ play_line (command_of ws)) (sym h.0.words_are) refl
+played words (Write None) n h = subst (λ (ws : List (List ℕ)). line_of_words ws ≡ play_line (command_of ws)) (sym h.words_are) refl
+played words (Write (Some a)) n h = subst (λ (ws : List (List ℕ)). line_of_words ws ≡ play_line (command_of ws)) (sym h.words_are) refl
+played words (Show a) n h = subst (λ (ws : List (List ℕ)). line_of_words ws ≡ play_line (command_of ws)) (sym h.0.words_are) refl
+played words (GetShard name) n h = subst (λ (ws : List (List ℕ)). line_of_words ws ≡ play_line (command_of ws)) (sym h.0.words_are) refl
+played words (GetTablets name) n h = subst (λ (ws : List (List ℕ)). line_of_words ws ≡ play_line (command_of ws)) (sym h.0.words_are) refl
+
 -- a command that is played
 play_read : (line : List ℕ) (command : Command) (n : ℕ) → IsCommand (words_of line) command n → line_of line ≡ Some (Act (Play command n))
-unfolding line_of_words play_line
-play_read line (Planned name given avoid expected timeout allow_cross_cell) n h =
-    let command = Planned name given avoid expected timeout allow_cross_cell in
-    ap (λ (ws : List (List ℕ)). line_of_words ws) h.0.words_are ∙ ap (λ (o : Option Given). play_line o) (planned_is (words_of line) command h.0)
-    ∙ ap (λ (k : ℕ). Some (Act (Play command k))) (sym h.1)
-play_read line (External a) n h = absurd h
-play_read line (Write None) n h =
-    ap (λ (ws : List (List ℕ)). line_of_words ws) h.words_are ∙ ap (λ (o : Option Given). play_line o) (write_is (words_of line) n h)
-play_read line (Write (Some a)) n h =
-    ap (λ (ws : List (List ℕ)). line_of_words ws) h.words_are ∙ ap (λ (o : Option Given). play_line o) (write_to_is (words_of line) a n h)
-play_read line (Show a) n h =
-    ap (λ (ws : List (List ℕ)). line_of_words ws) h.0.words_are ∙ ap (λ (o : Option Given). play_line o) (show_is (words_of line) a h.0)
-    ∙ ap (λ (k : ℕ). Some (Act (Play (Show a) k))) (sym h.1)
+unfolding play_line
+play_read line command n h = played (words_of line) command n h ∙ ap (λ (o : Option Given). play_line o) (command_is (words_of line) command n h)
 
 -- a name and a command that is given once
 started : (name : List ℕ) (command : Command) → name_reading name ≡ Some name → start_line name (Some (record { command = command; count = 1 })) ≡ Some (Act (Start name command))
@@ -79,16 +82,7 @@ started name command is_name =
 -- the words of a command behind `start NAME`
 start_words : (name : List ℕ) (words : List (List ℕ)) (command : Command) → IsCommand words command 1 → line_of_words (codes "start" ∷ name ∷ words) ≡ start_line name (Some (record { command = command; count = 1 }))
 unfolding line_of_words
-start_words name words (Planned shard given avoid expected timeout allow_cross_cell) h =
-    let command = Planned shard given avoid expected timeout allow_cross_cell in
-    ap (λ (ws : List (List ℕ)). line_of_words (codes "start" ∷ name ∷ ws)) h.0.words_are ∙ ap (λ (o : Option Given). start_line name o) (planned_is words command h.0)
-start_words name words (External a) h = absurd h
-start_words name words (Write None) h =
-    ap (λ (ws : List (List ℕ)). line_of_words (codes "start" ∷ name ∷ ws)) h.words_are ∙ ap (λ (o : Option Given). start_line name o) (write_is words 1 h)
-start_words name words (Write (Some a)) h =
-    ap (λ (ws : List (List ℕ)). line_of_words (codes "start" ∷ name ∷ ws)) h.words_are ∙ ap (λ (o : Option Given). start_line name o) (write_to_is words a 1 h)
-start_words name words (Show a) h =
-    ap (λ (ws : List (List ℕ)). line_of_words (codes "start" ∷ name ∷ ws)) h.0.words_are ∙ ap (λ (o : Option Given). start_line name o) (show_is words a h.0)
+start_words name words command h = ap (λ (o : Option Given). start_line name o) (command_is words command 1 h)
 
 start_read : (line name : List ℕ) (command : Command) → IsStartLine line name command → line_of line ≡ Some (Act (Start name command))
 start_read line name command h =

@@ -11,7 +11,7 @@ use Rattle.std.proofs.lemmas.Map.Made.{is_member-Decides}
 use Rattle.std.proofs.lemmas.Slice.Eq.{bytes_eq-Decides}
 use Rattle.shard_script.specs.declared.script.Action.{Action}
 use Rattle.shard_script.specs.Names.{IsName, is_name_byte, begins_with_letter, is_taken, name_reading, has_name, started_by, started, NamesDiffer, IsKnown, AreKnown}
-use Rattle.shard_script.proofs.OptionLemmas.{only_if_some, and_both, not_true}
+use Rattle.script_commands.proofs.OptionLemmas.{only_if_some, and_both, not_true}
 use Rattle.shard_script.proofs.TabletsInOrder.{or_false}
 
 -- ---- one name

@@ -15,7 +15,7 @@ use Rattle.shard_names.specs.Tablets.{AreTablets}
 use Rattle.durability.specs.declared.policy.Durability.{Durability}
 use Rattle.durability.specs.declared.policy.Durability.TheVariants as policies
 use Rattle.shard_calls.specs.declared.command.Command.{Command}
-use Rattle.shard_calls.specs.declared.command.Command.TheVariants.{Planned, External, Write, Show}
+use Rattle.shard_calls.specs.declared.command.Command.TheVariants.{Planned, Emergency, External, Write, Show, GetShard, GetTablets}
 use Rattle.shard_script.specs.declared.line.Line.{Line}
 use Rattle.shard_script.specs.declared.line.Line.TheVariants.{Shard, Tablet, Act}
 use Rattle.shard_script.specs.declared.script.Action.{Action}
@@ -25,11 +25,12 @@ use Rattle.shard_script.specs.declared.script.ScriptFault.{ScriptFault}
 use Rattle.shard_script.specs.Names.{IsName, has_name, started_by, started, NamesDiffer, IsKnown, AreKnown}
 use Rattle.shard_script.specs.Aliases.{NamesDeclared, are_ends}
 use Rattle.shard_script.specs.Lines.{words_of, is_script_byte, say_nothing, line_of}
-use Rattle.shard_script.specs.Grammar.{IsCommand, IsActionLine, Says, HasScriptBytes}
+use Rattle.script_commands.specs.Grammar.{IsCommand}
+use Rattle.shard_script.specs.Grammar.{IsActionLine, Says, HasScriptBytes}
 use Rattle.shard_script.specs.Script.{Gives, Fits, FitsShard, IsInTime, read_on, read_lines, with_bytes, with_words, reading, admits, admits_command, admits_name, admits_action, with_line, has_alias, has_server, all_declared, in_place, is_shard, empty_script, fault_behind, lines_of, ended_lines, first_bytes}
-use Rattle.shard_script.proofs.OptionLemmas.{and_both, not_true}
+use Rattle.script_commands.proofs.OptionLemmas.{and_both, not_true}
 use Rattle.shard_script.proofs.NameLemmas.{started_more, known_more, differ_more, known_is}
-use Rattle.shard_script.proofs.CommandLemmas.{in_time}
+use Rattle.script_commands.proofs.CommandLemmas.{in_time}
 use Rattle.shard_script.proofs.LineLemmas.{says_of}
 use Rattle.shard_script.proofs.DeclaredLemmas.{names_declared}
 use Rattle.shard_script.proofs.TabletsInOrder.{length-in_place, rises-in_place, apart-in_place}
@@ -56,27 +57,16 @@ record SoFar (place : ℕ) (s : Script) : Type 0 where
   names_differ : NamesDiffer s.names
   known : AreKnown [] s.actions
 
--- words that are read give it
-IsRead : Command → Type 0
-IsRead (Planned name given avoid expected timeout allow_cross_cell) = ⊤
-IsRead (External a) = ⊥
-IsRead (Write to) = ⊤
-IsRead (Show a) = ⊤
-
-is_read : (words : List (List ℕ)) (command : Command) (n : ℕ) → IsCommand words command n → IsRead command
-unfolding IsRead
-is_read words (Planned name given avoid expected timeout allow_cross_cell) n h = tt
-is_read words (External a) n h = absurd h
-is_read words (Write to) n h = tt
-is_read words (Show a) n h = tt
-
 -- what an action's line says of its numbers and its name
 CountedAction : Action → Type 0
 CountedAction (actions.Play (Planned name given avoid expected timeout allow_cross_cell) n) = n ≡ 1
-CountedAction (actions.Play (External a) n) = ⊥
+CountedAction (actions.Play (Emergency name given ignored expected timeout prevent_cross_cell) n) = n ≡ 1
+CountedAction (actions.Play (External a) n) = n ≡ 1
 CountedAction (actions.Play (Write to) n) = (1 ≤ n) × (n ≤ 100)
 CountedAction (actions.Play (Show a) n) = n ≡ 1
-CountedAction (actions.Start name command) = IsName name × IsRead command
+CountedAction (actions.Play (GetShard name) n) = n ≡ 1
+CountedAction (actions.Play (GetTablets name) n) = n ≡ 1
+CountedAction (actions.Start name command) = IsName name
 CountedAction (actions.Turn name pumps) = (1 ≤ pumps) × (pumps ≤ 1000000)
 CountedAction (actions.Finish name) = ⊤
 CountedAction actions.Settle = ⊤
@@ -98,11 +88,14 @@ Counted (Act x) = CountedAction x × IsInTime x
 counted_action : (line : List ℕ) (x : Action) → IsActionLine line x → CountedAction x
 unfolding CountedAction
 counted_action line (actions.Play (Planned name given avoid expected timeout allow_cross_cell) n) h = h.1
-counted_action line (actions.Play (External a) n) h = absurd h
+counted_action line (actions.Play (Emergency name given ignored expected timeout prevent_cross_cell) n) h = h.1
+counted_action line (actions.Play (External a) n) h = h.1
 counted_action line (actions.Play (Write None) n) h = (h.from_one, h.to_hundred)
 counted_action line (actions.Play (Write (Some a)) n) h = (h.from_one, h.to_hundred)
 counted_action line (actions.Play (Show a) n) h = h.1
-counted_action line (actions.Start name command) h = (h.is_name, is_read h.command_words command 1 h.once)
+counted_action line (actions.Play (GetShard name) n) h = h.1
+counted_action line (actions.Play (GetTablets name) n) h = h.1
+counted_action line (actions.Start name command) h = h.is_name
 counted_action line (actions.Turn name pumps) h = (h.from_one, h.to_million)
 counted_action line (actions.Finish name) h = tt
 counted_action line actions.Settle h = tt
@@ -202,15 +195,21 @@ one_tablet place s t h ok =
     }
 
 fits_one : (s : Script) (x : Action) → CountedAction x → admits_action s x ≡ true → FitsShard s.shard x
-unfolding CountedAction IsRead
-fits_one s (actions.Play (External a) n) never ok = never
+unfolding CountedAction
+fits_one s (actions.Play (External a) n) once ok = once
+fits_one s (actions.Play (Emergency name given ignored expected timeout prevent_cross_cell) n) once ok = (shard_is s.shard name ok, once)
 fits_one s (actions.Play (Planned name given avoid expected timeout allow_cross_cell) n) once ok = (shard_is s.shard name ok, once)
 fits_one s (actions.Play (Write to) n) range ok = range
 fits_one s (actions.Play (Show a) n) once ok = once
-fits_one s (actions.Start name (External a)) read ok = read.1
+fits_one s (actions.Play (GetShard name) n) once ok = (shard_is s.shard name ok, once)
+fits_one s (actions.Play (GetTablets name) n) once ok = (shard_is s.shard name ok, once)
+fits_one s (actions.Start name (External a)) named ok = tt
+fits_one s (actions.Start name (Emergency shard given ignored expected timeout prevent_cross_cell)) named ok = shard_is s.shard shard (and_both (is_shard s.shard shard) (admits_name s name) ok).0
 fits_one s (actions.Start name (Planned shard given avoid expected timeout allow_cross_cell)) named ok = shard_is s.shard shard (and_both (is_shard s.shard shard) (admits_name s name) ok).0
 fits_one s (actions.Start name (Write to)) named ok = tt
 fits_one s (actions.Start name (Show a)) named ok = tt
+fits_one s (actions.Start name (GetShard shard)) named ok = shard_is s.shard shard (and_both (is_shard s.shard shard) (admits_name s name) ok).0
+fits_one s (actions.Start name (GetTablets shard)) named ok = shard_is s.shard shard (and_both (is_shard s.shard shard) (admits_name s name) ok).0
 fits_one s (actions.Turn name pumps) range ok = range
 fits_one s (actions.Finish name) counts ok = tt
 fits_one s actions.Settle counts ok = tt
@@ -229,7 +228,7 @@ fits_one s (actions.Tick ms) day ok = day
 names_of : (x : Action) → CountedAction x → All IsName (started_by x)
 unfolding CountedAction
 names_of (actions.Play command n) h = All-nil IsName
-names_of (actions.Start name command) h = All-cons IsName name [] h.0 (All-nil IsName)
+names_of (actions.Start name command) h = All-cons IsName name [] h (All-nil IsName)
 names_of (actions.Turn name pumps) h = All-nil IsName
 names_of (actions.Finish name) h = All-nil IsName
 names_of actions.Settle h = All-nil IsName

@@ -13,7 +13,7 @@ use Rattle.shard_names.specs.declared.tablet.Tablet.{Tablet as TabletData}
 use Rattle.shard_names.specs.Tablets.{alias_eq, AliasesRise, ServersDiffer}
 use Rattle.shard_names.proofs.TabletLemmas.{alias_eq-Decides, both}
 use Rattle.shard_calls.specs.declared.command.Command.{Command}
-use Rattle.shard_calls.specs.declared.command.Command.TheVariants.{Planned, External, Write, Show}
+use Rattle.shard_calls.specs.declared.command.Command.TheVariants.{Planned, Emergency, External, Write, Show, GetShard, GetTablets}
 use Rattle.shard_script.specs.declared.line.Line.{Line}
 use Rattle.shard_script.specs.declared.line.Line.TheVariants.{Shard, Tablet, Act}
 use Rattle.shard_script.specs.declared.script.Action.{Action}
@@ -23,7 +23,8 @@ use Rattle.shard_script.specs.Names.{has_name, started_by, started, NamesDiffer,
 use Rattle.shard_script.specs.Aliases.{NamesDeclared}
 use Rattle.shard_script.specs.Lines.{words_of, say_nothing}
 use Rattle.shard_script.specs.Script.{read_on, read_lines, with_bytes, with_words, admits, admits_command, admits_name, admits_action, all_declared, with_line, has_alias, has_server, is_shard, shard_eq, in_place, empty_script, reading, lines_of, ended_lines, first_bytes, fault_behind}
-use Rattle.shard_script.specs.Grammar.{IsTabletLine, IsActionLine, Says, AliasesDiffer, IsCommand, IsCommandOf, IsOfShard, IsShardScript, IsScript, told_lines, HasScriptBytes, Spell, Spells, ReadsAsSpelled}
+use Rattle.script_commands.specs.Grammar.{IsCommand}
+use Rattle.shard_script.specs.Grammar.{IsTabletLine, IsActionLine, Says, AliasesDiffer, IsCommandOf, IsOfShard, IsShardScript, IsScript, told_lines, HasScriptBytes, Spell, Spells, ReadsAsSpelled}
 use Rattle.shard_script.specs.Grammar.IsScript.{is_empty, is_shard_script}
 use Rattle.shard_script.proofs.NameLemmas.{not_same, or_none, not_before, is_known}
 use Rattle.shard_script.proofs.LineReads.{of_says}
@@ -38,10 +39,13 @@ use Rattle.shard_script.proofs.ToldLemmas.{Tells, step_on, all_on, fewer_told, A
 -- a line that says its part is no comment
 command_tells : (words : List (List ℕ)) (command : Command) (n : ℕ) → IsCommand words command n → say_nothing words ≡ false
 command_tells words (Planned name given avoid expected timeout allow_cross_cell) n h = ap (λ (ws : List (List ℕ)). say_nothing ws) h.0.words_are
-command_tells words (External a) n h = absurd h
+command_tells words (Emergency name given ignored expected timeout prevent_cross_cell) n h = ap (λ (ws : List (List ℕ)). say_nothing ws) h.0.words_are
+command_tells words (External a) n h = ap (λ (ws : List (List ℕ)). say_nothing ws) h.0.words_are
 command_tells words (Write None) n h = ap (λ (ws : List (List ℕ)). say_nothing ws) h.words_are
 command_tells words (Write (Some a)) n h = ap (λ (ws : List (List ℕ)). say_nothing ws) h.words_are
 command_tells words (Show a) n h = ap (λ (ws : List (List ℕ)). say_nothing ws) h.0.words_are
+command_tells words (GetShard name) n h = ap (λ (ws : List (List ℕ)). say_nothing ws) h.0.words_are
+command_tells words (GetTablets name) n h = ap (λ (ws : List (List ℕ)). say_nothing ws) h.0.words_are
 
 action_tells : (l : List ℕ) (x : Action) → IsActionLine l x → Tells l
 action_tells l (actions.Play command n) h = command_tells (words_of l) command n h
@@ -115,12 +119,17 @@ tablets_on place s name (l ∷ tl) al (d ∷ ds) said bytes named none few new a
 same_shard : (name : ShardName) → shard_eq name name ≡ true
 same_shard name = both (bytes_eq name.keyspace name.keyspace) (bytes_eq name.shard name.shard) ((bytes_eq-Decides name.keyspace name.keyspace).1 refl) ((bytes_eq-Decides name.shard name.shard).1 refl)
 
+shard_admitted : (s : Script) (name m : ShardName) → s.shard ≡ Some name → m ≡ name → is_shard s.shard m ≡ true
+shard_admitted s name m named of = ap (λ (o : Option ShardName). is_shard o m) named ∙ ap (λ (k : ShardName). shard_eq name k) of ∙ same_shard name
+
 command_admitted : (s : Script) (name : ShardName) (c : Command) → s.shard ≡ Some name → IsCommandOf name c → admits_command s c ≡ true
-command_admitted s name (Planned m given avoid expected timeout allow_cross_cell) named of =
-    ap (λ (o : Option ShardName). is_shard o m) named ∙ ap (λ (k : ShardName). shard_eq name k) of ∙ same_shard name
+command_admitted s name (Planned m given avoid expected timeout allow_cross_cell) named of = shard_admitted s name m named of
+command_admitted s name (Emergency m given ignored expected timeout prevent_cross_cell) named of = shard_admitted s name m named of
 command_admitted s name (External a) named of = refl
 command_admitted s name (Write to) named of = refl
 command_admitted s name (Show a) named of = refl
+command_admitted s name (GetShard m) named of = shard_admitted s name m named of
+command_admitted s name (GetTablets m) named of = shard_admitted s name m named of
 
 -- a name that differs from those before it, where there is room
 name_admitted : (s : Script) (n : List ℕ) (ns : List (List ℕ)) → NamesDiffer (s.names ++ n ∷ ns) → length (s.names ++ n ∷ ns) ≤ 16 → admits_name s n ≡ true

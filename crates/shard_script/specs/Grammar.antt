@@ -15,7 +15,7 @@ use Rattle.shard_names.specs.Tablets.{AliasesRise, ServersDiffer}
 use Rattle.durability.specs.declared.policy.Durability.{Durability}
 use Rattle.durability.specs.Policies.{policy_name}
 use Rattle.shard_calls.specs.declared.command.Command.{Command}
-use Rattle.shard_calls.specs.declared.command.Command.TheVariants.{Planned, External, Write, Show}
+use Rattle.shard_calls.specs.declared.command.Command.TheVariants.{Planned, Emergency, External, Write, Show, GetShard, GetTablets}
 use Rattle.shard_calls.specs.declared.event.Side.{Side}
 use Rattle.shard_calls.specs.declared.event.Side.TheVariants as sides
 use Rattle.shard_script.specs.declared.line.Line.{Line}
@@ -23,9 +23,9 @@ use Rattle.shard_script.specs.declared.line.Line.TheVariants.{Shard, Tablet, Act
 use Rattle.shard_script.specs.declared.script.Action.{Action}
 use Rattle.shard_script.specs.declared.script.Action.TheVariants as actions
 use Rattle.shard_script.specs.declared.script.Script.{Script}
+use Rattle.script_commands.specs.Grammar.{IsNumber, IsUnit, IsOfTablet, IsCommand}
 use Rattle.shard_script.specs.Names.{IsName, started, NamesDiffer, AreKnown}
 use Rattle.shard_script.specs.Aliases.{NamesDeclared, are_ends}
-use Rattle.shard_script.specs.Commands.{reparent_to}
 use Rattle.shard_script.specs.Lines.{words_of, is_script_byte, say_nothing, server_reading}
 use Rattle.shard_script.specs.Script.{empty_script, lines_of, ended_lines, first_bytes, reading}
 
@@ -50,55 +50,6 @@ pub record IsTabletLine (line : List ℕ) (tablet : TabletData) : Type 0 where
   pub alias_is : alias_reading alias_text ≡ Ok tablet.alias
   pub type_is : IsTypeWord type_text tablet.kind
   pub server_is : server_reading server_text ≡ Some tablet.server
-
--- `PlannedReparentShard K/S --new-primary ALIAS`
-pub record IsPlanned (words : List (List ℕ)) (command : Command) : Type 0 where
-  pub name : ShardName
-  pub new_primary : Alias
-  pub command_is : command ≡ reparent_to name new_primary
-  pub name_text : List ℕ
-  pub alias_text : List ℕ
-  pub words_are : words ≡ codes "PlannedReparentShard" ∷ name_text ∷ codes "--new-primary" ∷ alias_text ∷ []
-  pub name_is : shard_name_reading name_text ≡ Some name
-  pub alias_is : alias_reading alias_text ≡ Ok new_primary
-
--- a number in decimal digits
-pub record IsNumber (digits : List ℕ) (n : ℕ) : Type 0 where
-  pub some_digit : 0 < length digits
-  pub are_digits : list_all is_ascii_digit digits ≡ true
-  pub value : digits_value 10 digits ≡ n
-
--- `write N`: N from 1 to 100
-pub record IsWrite (words : List (List ℕ)) (count : ℕ) : Type 0 where
-  pub digits : List ℕ
-  pub words_are : words ≡ codes "write" ∷ digits ∷ []
-  pub number : IsNumber digits count
-  pub from_one : 1 ≤ count
-  pub to_hundred : count ≤ 100
-
--- `write N to ALIAS`: N from 1 to 100
-pub record IsWriteTo (words : List (List ℕ)) (alias : Alias) (count : ℕ) : Type 0 where
-  pub digits : List ℕ
-  pub alias_text : List ℕ
-  pub words_are : words ≡ codes "write" ∷ digits ∷ codes "to" ∷ alias_text ∷ []
-  pub number : IsNumber digits count
-  pub from_one : 1 ≤ count
-  pub to_hundred : count ≤ 100
-  pub alias_is : alias_reading alias_text ≡ Ok alias
-
--- a word and ALIAS
-pub record IsOfTablet (head : List ℕ) (words : List (List ℕ)) (alias : Alias) : Type 0 where
-  pub alias_text : List ℕ
-  pub words_are : words ≡ head ∷ alias_text ∷ []
-  pub alias_is : alias_reading alias_text ≡ Ok alias
-
--- the words of a command that is given so many times; no words record a promotion by other hands
-abbrev pub IsCommand : List (List ℕ) → Command → ℕ → Type 0
-IsCommand words (Planned name given avoid expected timeout allow_cross_cell) n = IsPlanned words (Planned name given avoid expected timeout allow_cross_cell) × (n ≡ 1)
-IsCommand words (External a) n = ⊥
-IsCommand words (Write None) n = IsWrite words n
-IsCommand words (Write (Some a)) n = IsWriteTo words a n
-IsCommand words (Show a) n = IsOfTablet (codes "show") words a × (n ≡ 1)
 
 -- `start NAME COMMAND`: a command that is given once
 pub record IsStartLine (line name : List ℕ) (command : Command) : Type 0 where
@@ -128,12 +79,6 @@ IsSettleLine line = words_of line ≡ codes "settle" ∷ []
 -- `lapse`
 abbrev pub IsLapseLine : List ℕ → Type 0
 IsLapseLine line = words_of line ≡ codes "lapse" ∷ []
-
--- a unit and its milliseconds
-pub data IsUnit (text : List ℕ) (milliseconds : ℕ) : Type 0 where
-  is_millisecond : text ≡ codes "ms" → milliseconds ≡ 1 → IsUnit text milliseconds
-  is_second : text ≡ codes "s" → milliseconds ≡ 1000 → IsUnit text milliseconds
-  is_minute : text ≡ codes "m" → milliseconds ≡ 60000 → IsUnit text milliseconds
 
 -- `tick DURATION`: 1 to 9 digits and a unit, at most a day in all
 pub record IsTickLine (line : List ℕ) (milliseconds : ℕ) : Type 0 where
@@ -208,12 +153,15 @@ abbrev pub AliasesDiffer : List TabletData → Type 0
 AliasesDiffer [] = ⊤
 AliasesDiffer (t ∷ ts) = All (λ u. t.alias ≢ u.alias) ts × AliasesDiffer ts
 
--- a reparent is of this shard
+-- a command of a shard is of this one
 abbrev pub IsCommandOf : ShardName → Command → Type 0
 IsCommandOf name (Planned n given avoid expected timeout allow_cross_cell) = n ≡ name
+IsCommandOf name (Emergency n given ignored expected timeout prevent_cross_cell) = n ≡ name
 IsCommandOf name (External a) = ⊤
 IsCommandOf name (Write to) = ⊤
 IsCommandOf name (Show a) = ⊤
+IsCommandOf name (GetShard n) = n ≡ name
+IsCommandOf name (GetTablets n) = n ≡ name
 
 abbrev pub IsOfShard : ShardName → Action → Type 0
 IsOfShard name (actions.Play command n) = IsCommandOf name command
@@ -247,12 +195,12 @@ pub record IsShardScript (lines : List (List ℕ)) (s : Script) : Type 0 where
   pub shard : s.shard ≡ Some name
   pub tablets : IsPermutation declared s.tablets
   pub in_order : AliasesRise s.tablets
-  -- at most 32 tablets that all differ, and reparents of this shard alone
+  -- at most 32 tablets that all differ, and commands of this shard alone
   pub few_tablets : length declared ≤ 32
   pub aliases_differ : AliasesDiffer declared
   pub servers_differ : ServersDiffer declared
   pub of_shard : All (IsOfShard name) s.actions
-  -- where an action names a tablet, but for the new primary of a reparent, it is declared
+  -- where an action names a tablet, but for those of a reparent, it is declared
   pub are_declared : All (NamesDeclared s.tablets) s.actions
   -- the names that are started, in order: at most 16 that all differ, and `turn` and `finish` behind the start of their name
   pub names : s.names ≡ started s.actions

@@ -15,18 +15,14 @@ use Rattle.durability.specs.Policies.{policy_name}
 use Rattle.shard_calls.specs.declared.event.Link.{Link}
 use Rattle.shard_calls.specs.declared.event.Side.{Side}
 use Rattle.shard_calls.specs.declared.event.Side.TheVariants as sides
-use Rattle.shard_script.specs.declared.command.Given.{Given}
+use Rattle.script_commands.specs.declared.command.Given.{Given}
 use Rattle.shard_script.specs.declared.line.Line.{Line}
 use Rattle.shard_script.specs.declared.line.Line.TheVariants.{Shard, Tablet, Act}
 use Rattle.shard_script.specs.declared.script.Action.TheVariants.{Play, Start, Turn, Finish, Settle, Local, Crash, Restart, Cut, Mend, Lose, Repeat, Lapse, Tick}
-use Rattle.shard_script.specs.Numbers.{number_reading, number_within, duration_reading}
+use Rattle.script_commands.specs.Numbers.{number_reading, number_within, duration_reading}
 use Rattle.shard_script.specs.Names.{name_reading}
 use Rattle.shard_script.specs.Aliases.{are_ends}
-use Rattle.shard_script.specs.Commands.{command_of_two, command_of_four}
-
--- the parts between separators
-abbrev pub parts_of : ℕ → List ℕ → List (List ℕ)
-parts_of separator bytes = slice_split (λ b. b == separator) bytes
+use Rattle.script_commands.specs.Commands.{word, command_of}
 
 -- a space or a tab
 abbrev pub is_blank : ℕ → Bool
@@ -155,10 +151,7 @@ lose_line message = number_reading message >>= (λ k. Some (Act (Lose k)))
 unfoldable pub repeat_line : List ℕ → Option Line
 repeat_line message = number_reading message >>= (λ k. Some (Act (Repeat k)))
 
--- ---- by the number of words
-
-abbrev pub word : List (List ℕ) → ℕ → List ℕ
-word words k = slice_index_or words k []
+-- ---- by the first word, and by the number of words
 
 abbrev pub one_word : List ℕ → Option Line
 one_word head =
@@ -166,14 +159,14 @@ one_word head =
     else if bytes_eq head (codes "settle") then Some (Act Settle)
     else None
 
--- what is done to a tablet or a message, or a command
+-- what is done to a tablet or a message
 abbrev pub tablet_or_message : List ℕ → List ℕ → Option Line
 tablet_or_message head a =
     if bytes_eq head (codes "local") then local_line a
     else if bytes_eq head (codes "restart") then restart_line a
     else if bytes_eq head (codes "lose") then lose_line a
     else if bytes_eq head (codes "repeat") then repeat_line a
-    else play_line (command_of_two head a)
+    else None
 
 abbrev pub two_words : List ℕ → List ℕ → Option Line
 two_words head a =
@@ -193,20 +186,34 @@ abbrev pub four_words : List ℕ → List ℕ → List ℕ → List ℕ → Opti
 four_words head a b c =
     if bytes_eq head (codes "tablet") then tablet_line a b c
     else if bytes_eq head (codes "crash") then crash_line a b c
-    else if bytes_eq head (codes "start") then start_line a (command_of_two b c)
-    else play_line (command_of_four head a b c)
+    else None
 
-abbrev pub six_words : List ℕ → List ℕ → List ℕ → List ℕ → List ℕ → List ℕ → Option Line
-six_words head a b c d e = if bytes_eq head (codes "start") then start_line a (command_of_four b c d e) else None
+-- a line that gives no command
+abbrev pub plain_line : List ℕ → List (List ℕ) → Option Line
+plain_line head words =
+    if length words == 0 then one_word head
+    else if length words == 1 then two_words head (word words 0)
+    else if length words == 2 then three_words head (word words 0) (word words 1)
+    else if length words == 3 then four_words head (word words 0) (word words 1) (word words 2)
+    else None
+
+-- whether a command begins with this word
+abbrev pub begins_command : List ℕ → Bool
+begins_command head =
+    bytes_eq head (codes "PlannedReparentShard") || bytes_eq head (codes "EmergencyReparentShard") || bytes_eq head (codes "TabletExternallyReparented")
+    || bytes_eq head (codes "write") || bytes_eq head (codes "show") || bytes_eq head (codes "GetShard") || bytes_eq head (codes "GetTablets")
+
+-- `start` and these words behind it: a name, and a command
+abbrev pub started_line : List (List ℕ) → Option Line
+started_line [] = None
+started_line (name ∷ words) = start_line name (command_of words)
 
 unfoldable pub line_of_words : List (List ℕ) → Option Line
-line_of_words words =
-    if length words == 1 then one_word (word words 0)
-    else if length words == 2 then two_words (word words 0) (word words 1)
-    else if length words == 3 then three_words (word words 0) (word words 1) (word words 2)
-    else if length words == 4 then four_words (word words 0) (word words 1) (word words 2) (word words 3)
-    else if length words == 6 then six_words (word words 0) (word words 1) (word words 2) (word words 3) (word words 4) (word words 5)
-    else None
+line_of_words [] = None
+line_of_words (head ∷ words) =
+    if bytes_eq head (codes "start") then started_line words
+    else if begins_command head then play_line (command_of (head ∷ words))
+    else plain_line head words
 
 -- the line that bytes spell
 abbrev pub line_of : List ℕ → Option Line

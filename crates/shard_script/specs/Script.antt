@@ -9,7 +9,7 @@ use Rattle.shard_names.specs.declared.shard_name.ShardName.{ShardName}
 use Rattle.shard_names.specs.declared.tablet.Tablet.{Tablet as TabletData}
 use Rattle.durability.specs.declared.policy.Durability.TheVariants as policies
 use Rattle.shard_calls.specs.declared.command.Command.{Command}
-use Rattle.shard_calls.specs.declared.command.Command.TheVariants.{Planned, External, Write, Show}
+use Rattle.shard_calls.specs.declared.command.Command.TheVariants.{Planned, Emergency, External, Write, Show, GetShard, GetTablets}
 use Rattle.shard_calls.specs.Begins.{is_in_time}
 use Rattle.shard_script.specs.declared.line.Line.{Line}
 use Rattle.shard_script.specs.declared.line.Line.TheVariants.{Shard, Tablet, Act}
@@ -20,7 +20,8 @@ use Rattle.shard_script.specs.declared.script.ScriptFault.{ScriptFault}
 use Rattle.shard_script.specs.declared.script.ScriptFault.TheVariants as faults
 use Rattle.shard_script.specs.Names.{IsName, has_name, started_by, started, NamesDiffer, AreKnown}
 use Rattle.shard_script.specs.Aliases.{aliases_of, NamesDeclared, are_ends}
-use Rattle.shard_script.specs.Lines.{parts_of, words_of, is_script_byte, say_nothing, line_of_words}
+use Rattle.script_commands.specs.Options.{parts_of}
+use Rattle.shard_script.specs.Lines.{words_of, is_script_byte, say_nothing, line_of_words}
 
 -- whether a tablet has this alias
 abbrev pub has_alias : List TabletData → Alias → Bool
@@ -56,12 +57,15 @@ abbrev pub admits_tablet : Script → TabletData → Bool
 admits_tablet s t =
     is_some s.shard && (length s.actions == 0) && nat_lt (length s.tablets) 32 && not (has_alias s.tablets t.alias) && not (has_server s.tablets t.server)
 
--- a reparent is of the declared shard
+-- a command of a shard is of the declared one
 abbrev pub admits_command : Script → Command → Bool
 admits_command s (Planned name given avoid expected timeout allow_cross_cell) = is_shard s.shard name
+admits_command s (Emergency name given ignored expected timeout prevent_cross_cell) = is_shard s.shard name
 admits_command s (External a) = true
 admits_command s (Write to) = true
 admits_command s (Show a) = true
+admits_command s (GetShard name) = is_shard s.shard name
+admits_command s (GetTablets name) = is_shard s.shard name
 
 -- a name is started once, as one of at most 16
 abbrev pub admits_name : Script → List ℕ → Bool
@@ -187,17 +191,23 @@ Gives (Ok s) r = r ≡ Ok s
 Gives (Err (faults.Line place)) r = r ≡ Err place
 Gives (Err faults.OutOfMemory) r = ⊤
 
--- A reparent is of the declared shard. It is given once, as a show is, and a write 1 to 100 times. A turn is of 1 to 1,000,000 events, and at most a day
--- goes by. A link has two ends of which one is a tablet. No promotion by other hands is to be recorded.
+-- A command of a shard is of the declared one. Each is given once, but for a write, which is given 1 to 100 times. A turn is of 1 to 1,000,000 events, and
+-- at most a day goes by. A link has two ends of which one is a tablet.
 abbrev pub FitsShard : Option ShardName → Action → Type 0
 FitsShard shard (actions.Play (Planned name given avoid expected timeout allow_cross_cell) n) = (shard ≡ Some name) × (n ≡ 1)
-FitsShard shard (actions.Play (External a) n) = ⊥
+FitsShard shard (actions.Play (Emergency name given ignored expected timeout prevent_cross_cell) n) = (shard ≡ Some name) × (n ≡ 1)
+FitsShard shard (actions.Play (External a) n) = n ≡ 1
 FitsShard shard (actions.Play (Write to) n) = (1 ≤ n) × (n ≤ 100)
 FitsShard shard (actions.Play (Show a) n) = n ≡ 1
+FitsShard shard (actions.Play (GetShard name) n) = (shard ≡ Some name) × (n ≡ 1)
+FitsShard shard (actions.Play (GetTablets name) n) = (shard ≡ Some name) × (n ≡ 1)
 FitsShard shard (actions.Start starter (Planned name given avoid expected timeout allow_cross_cell)) = shard ≡ Some name
-FitsShard shard (actions.Start starter (External a)) = ⊥
+FitsShard shard (actions.Start starter (Emergency name given ignored expected timeout prevent_cross_cell)) = shard ≡ Some name
+FitsShard shard (actions.Start starter (External a)) = ⊤
 FitsShard shard (actions.Start starter (Write to)) = ⊤
 FitsShard shard (actions.Start starter (Show a)) = ⊤
+FitsShard shard (actions.Start starter (GetShard name)) = shard ≡ Some name
+FitsShard shard (actions.Start starter (GetTablets name)) = shard ≡ Some name
 FitsShard shard (actions.Turn name pumps) = (1 ≤ pumps) × (pumps ≤ 1000000)
 FitsShard shard (actions.Finish name) = ⊤
 FitsShard shard actions.Settle = ⊤

@@ -2,13 +2,12 @@ ghost use Rattle.std.specs.Prelude.{◌≡◌, ◌==◌, map, filter, not, lengt
 ghost use Rattle.std.specs.List.{list_all};
 ghost use Rattle.shard_script.specs.Names.{is_name_byte, begins_with_letter, is_taken, name_reading};
 ghost use Rattle.shard_script.specs.Aliases.{are_ends};
-ghost use Rattle.shard_script.specs.Commands.{command_of_two, command_of_four};
-ghost use Rattle.shard_script.specs.Lines.{parts_of, is_blank, blank_parts, words_of, is_script_byte, begins_comment, say_nothing, server_reading, kind_reading, policy_reading, shard_line, tablet_line, play_line, start_line, turn_line, finish_line, tick_line, local_line, crash_line, restart_line, side_reading, link_reading, cut_line, mend_line, lose_line, repeat_line, one_word, tablet_or_message, two_words, three_words, four_words, six_words, line_of_words};
+ghost use Rattle.script_commands.specs.Commands.{command_of};
+ghost use Rattle.shard_script.specs.Lines.{is_blank, blank_parts, words_of, is_script_byte, begins_comment, say_nothing, server_reading, kind_reading, policy_reading, shard_line, tablet_line, play_line, start_line, turn_line, finish_line, tick_line, local_line, crash_line, restart_line, side_reading, link_reading, cut_line, mend_line, lose_line, repeat_line, one_word, tablet_or_message, two_words, three_words, four_words, plain_line, begins_command, started_line, line_of_words};
 
-use crate::command::{Given, command_of_four, command_of_two};
-use crate::number::{read_duration, read_number, read_within};
 use crate::script::Action;
 use durability::{Durability, read_policy};
+use script_commands::{Given, command_of, read_duration, read_number, read_within};
 use shard_base::{OutOfMemory, Text};
 use shard_calls::{Link, Side};
 use shard_names::{Alias, Name, ShardName, Tablet, TabletType};
@@ -16,7 +15,7 @@ use std::alloc::{AllocError, Global};
 use uuid::Uuid;
 
 /// A line of a script.
-#[derive(Clone, Copy)]
+#[derive(Drop)]
 pub enum Line {
     /// The shard's name, and its durability policy.
     Shard { name: ShardName, policy: Durability },
@@ -316,7 +315,7 @@ fn one_word(head: &[u8]) -> Option<Line>
     }
 }
 
-/// What is done to a tablet or a message, or a command.
+/// What is done to a tablet or a message.
 fn tablet_or_message(head: &[u8], a: &[u8]) -> Option<Line>
     ensures { result ≡ tablet_or_message head.now a.now }
 {
@@ -329,7 +328,7 @@ fn tablet_or_message(head: &[u8], a: &[u8]) -> Option<Line>
     } else if head == b"repeat".as_slice() {
         repeat_line(a)
     } else {
-        play_line(command_of_two(head, a))
+        None
     }
 }
 
@@ -368,54 +367,75 @@ fn four_words(head: &[u8], a: &[u8], b: &[u8], c: &[u8]) -> Option<Line>
         tablet_line(a, b, c)
     } else if head == b"crash".as_slice() {
         crash_line(a, b, c)
-    } else if head == b"start".as_slice() {
-        start_line(a, command_of_two(b, c))
-    } else {
-        play_line(command_of_four(head, a, b, c))
-    }
-}
-
-fn six_words(head: &[u8], a: &[u8], b: &[u8], c: &[u8], d: &[u8], e: &[u8]) -> Option<Line>
-    ensures { result ≡ six_words head.now a.now b.now c.now d.now e.now }
-{
-    if head == b"start".as_slice() {
-        start_line(a, command_of_four(b, c, d, e))
     } else {
         None
     }
+}
+
+/// The line of this word and the words behind it, if it gives no command.
+fn plain_line(head: &[u8], further: &[&[u8]]) -> Option<Line>
+    ensures { result ≡ plain_line head.now (map (λ w. w.now) further.now) }
+{
+    if further.is_empty() {
+        one_word(head)
+    } else if further.len() == 1 {
+        two_words(head, further[0])
+    } else if further.len() == 2 {
+        three_words(head, further[0], further[1])
+    } else if further.len() == 3 {
+        four_words(head, further[0], further[1], further[2])
+    } else {
+        None
+    }
+}
+
+/// Whether a command begins with this word.
+fn begins_command(head: &[u8]) -> bool
+    ensures { result ≡ begins_command head.now }
+{
+    head == b"PlannedReparentShard".as_slice()
+        || head == b"EmergencyReparentShard".as_slice()
+        || head == b"TabletExternallyReparented".as_slice()
+        || head == b"write".as_slice()
+        || head == b"show".as_slice()
+        || head == b"GetShard".as_slice()
+        || head == b"GetTablets".as_slice()
+}
+
+/// The line of `start` and the words behind it.
+fn started_line(alloc: Global, words: &[&[u8]]) -> Result<Option<Line>, OutOfMemory>
+    ensures { IfOk result (λ line. line ≡ started_line (map (λ w. w.now) words.now)) }
+{
+    let Some((name, command)) = words.split_first() else {
+        return Ok(None);
+    };
+    let given = command_of(alloc, command)?;
+    Ok(start_line(name, given))
+}
+
+/// The line of a command that is played.
+fn played_line(alloc: Global, words: &[&[u8]]) -> Result<Option<Line>, OutOfMemory>
+    ensures { IfOk result (λ line. line ≡ play_line (command_of (map (λ w. w.now) words.now))) }
+{
+    let given = command_of(alloc, words)?;
+    Ok(play_line(given))
 }
 
 /// The line that words spell.
 #[tactic(auto, unfolding(crate::specs::Lines::line_of_words))]
-pub fn line_of_words(words: &[&[u8]]) -> Option<Line>
-    ensures { result ≡ line_of_words (map (λ w. w.now) words.now) }
+pub fn line_of_words(alloc: Global, words: &[&[u8]]) -> Result<Option<Line>, OutOfMemory>
+    ensures { IfOk result (λ line. line ≡ line_of_words (map (λ w. w.now) words.now)) }
 {
-    if words.len() == 1 {
-        one_word(words[0])
-    } else if words.len() == 2 {
-        two_words(words[0], words[1])
-    } else if words.len() == 3 {
-        three_words(words[0], words[1], words[2])
-    } else if words.len() == 4 {
-        four_words(words[0], words[1], words[2], words[3])
-    } else if words.len() == 6 {
-        six_words(words[0], words[1], words[2], words[3], words[4], words[5])
+    let Some((head, further)) = words.split_first() else {
+        return Ok(None);
+    };
+    if *head == b"start".as_slice() {
+        started_line(alloc, further)
+    } else if begins_command(head) {
+        played_line(alloc, words)
     } else {
-        None
+        Ok(plain_line(head, further))
     }
-}
-
-fn collect_parts(alloc: Global, bytes: &[u8], separator: u8) -> Result<Vec<&[u8]>, AllocError>
-    ensures { IfOk result (λ parts. map (λ p. p.now) parts.items ≡ parts_of separator bytes.now) }
-{
-    bytes.split(|b| *b == separator).collect(alloc)
-}
-
-/// The parts between separators.
-pub fn parts_of(alloc: Global, bytes: &[u8], separator: u8) -> Result<Vec<&[u8]>, OutOfMemory>
-    ensures { IfOk result (λ parts. map (λ p. p.now) parts.items ≡ parts_of separator bytes.now) }
-{
-    Ok(collect_parts(alloc, bytes, separator)?)
 }
 
 fn is_blank(byte: u8) -> bool

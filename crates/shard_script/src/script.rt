@@ -6,8 +6,9 @@ ghost use Rattle.shard_script.specs.Names.{has_name, started_by};
 ghost use Rattle.shard_script.specs.Aliases.{aliases_in, aliases_at};
 ghost use Rattle.shard_script.specs.Script.{all_declared, first_bytes, place_among, has_alias, has_server, shard_eq, is_shard, is_below, in_place, admits_tablet, admits_command, admits_name, admits_action, admits, with_line, with_words, with_bytes, begins_newline, kept_byte, without_returns, all_parts, ended_parts, lines_of, ended_lines, read_on, read_lines, fault_behind, reading, Gives, Fits};
 
-use crate::line::{Line, has_script_bytes, line_of_words, parts_of, say_nothing, words_of};
+use crate::line::{Line, has_script_bytes, line_of_words, say_nothing, words_of};
 use durability::Durability;
+use script_commands::parts_of;
 use shard_base::{Items, OutOfMemory};
 use shard_calls::{Command, Side};
 use shard_names::{Alias, Name, ShardName, Tablet};
@@ -15,7 +16,7 @@ use std::alloc::Global;
 use uuid::Uuid;
 
 /// What a script asks for.
-#[derive(Clone, Copy)]
+#[derive(Drop)]
 pub enum Action {
     /// `main` gives the command, so many times, each after the one before has ended.
     Play { command: Command, count: u64 },
@@ -162,9 +163,12 @@ fn admits_command(script: &Script, command: &Command) -> bool
 {
     match command {
         Command::Planned { shard, .. } => is_shard(&script.shard, shard),
+        Command::Emergency { shard, .. } => is_shard(&script.shard, shard),
         Command::External { .. } => true,
         Command::Write { .. } => true,
         Command::Show { .. } => true,
+        Command::GetShard { shard } => is_shard(&script.shard, shard),
+        Command::GetTablets { shard } => is_shard(&script.shard, shard),
     }
 }
 
@@ -180,12 +184,15 @@ fn command_declared(tablets: &[Tablet], command: &Command) -> bool
 {
     match command {
         Command::Planned { .. } => true,
+        Command::Emergency { .. } => true,
         Command::External { .. } => true,
         Command::Write { to } => match to {
             Some(alias) => has_alias(tablets, alias),
             None => true,
         },
         Command::Show { alias } => has_alias(tablets, alias),
+        Command::GetShard { .. } => true,
+        Command::GetTablets { .. } => true,
     }
 }
 
@@ -305,6 +312,7 @@ fn with_action(actions: Items<Action>, action: Action) -> Result<Items<Action>, 
 {
     let _command: Option<&Command> = None;
     let _to: Option<&Option<Alias>> = None;
+    let _ignored: Option<&Items<Alias>> = None;
     let _side: Option<&Side> = None;
     let mut actions = actions;
     actions.push(action)?;
@@ -347,13 +355,16 @@ fn with_line(script: Script, line: Line) -> Result<Script, OutOfMemory>
 
 /// The script with the line that the words spell, if it may stand there.
 #[tactic(auto, unfolding(crate::specs::Script::with_words))]
-fn with_words(script: Script, words: &[&[u8]]) -> Result<Option<Script>, OutOfMemory>
+fn with_words(alloc: Global, script: Script, words: &[&[u8]]) -> Result<Option<Script>, OutOfMemory>
     ensures { IfOk result (λ new. new ≡ with_words script (map (λ w. w.now) words.now)) }
 {
-    match line_of_words(words) {
-        Some(line) if admits(&script, &line) => Ok(Some(with_line(script, line)?)),
-        _ => Ok(None),
+    let Some(line) = line_of_words(alloc, words)? else {
+        return Ok(None);
+    };
+    if !admits(&script, &line) {
+        return Ok(None);
     }
+    Ok(Some(with_line(script, line)?))
 }
 
 /// The script with the line that the bytes spell, if it may stand there.
@@ -368,7 +379,7 @@ fn with_bytes(alloc: Global, script: Script, bytes: &[u8]) -> Result<Option<Scri
     if say_nothing(&words) {
         return Ok(Some(script));
     }
-    with_words(script, &words)
+    with_words(alloc, script, &words)
 }
 
 fn begins_newline(text: &[u8]) -> bool

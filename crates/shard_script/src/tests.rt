@@ -1,22 +1,9 @@
-use crate::number::read_duration;
 use crate::{ScriptFault, read_text};
 use durability::Durability;
 use shard_base::{OutOfMemory, append_pieces};
 use shard_names::TabletType;
 use std::alloc::Global;
 use std::test::Fail;
-
-#[test]
-fn reads_durations_of_at_most_a_day(rt: HostRuntime) -> Result<(), Fail> {
-    assert_eq!(rt; read_duration(b"0s"), Some(0));
-    assert_eq!(rt; read_duration(b"90m"), Some(5400000));
-    assert_eq!(rt; read_duration(b"86400s"), Some(86400000));
-    assert_eq!(rt; read_duration(b"86401s"), None);
-    assert_eq!(rt; read_duration(b"1000000000ms"), None);
-    assert_eq!(rt; read_duration(b"5"), None);
-    assert_eq!(rt; read_duration(b"ms"), None);
-    Ok(())
-}
 
 /// The policy that a text declares, if it is a script.
 fn policy_of(alloc: Global, text: &[u8]) -> Result<Option<Durability>, OutOfMemory> {
@@ -151,6 +138,95 @@ fn finds_the_line_with_a_fault(rt: HostRuntime) -> Result<(), Fail> {
     ];
     for (lines, place) in faults {
         assert_eq!(rt; fault_of(rt.alloc(), lines)?, Some(place));
+    }
+    Ok(())
+}
+
+#[test]
+fn reads_reparents_with_options(rt: HostRuntime) -> Result<(), Fail> {
+    let lines = [
+        b"PlannedReparentShard commerce/0".as_slice(),
+        b"PlannedReparentShard --new-primary zone1-100 commerce/0".as_slice(),
+        b"PlannedReparentShard commerce/0 --new-primary=zone9-9 --avoid-primary zone1-100".as_slice(),
+        b"PlannedReparentShard --expected-primary=zone1-100 -- commerce/0".as_slice(),
+        b"PlannedReparentShard --wait-replicas-timeout 24m commerce/0 --allow-cross-cell-promotion".as_slice(),
+        b"EmergencyReparentShard commerce/0".as_slice(),
+        b"EmergencyReparentShard commerce/0 -i zone1-100".as_slice(),
+        b"EmergencyReparentShard -i=zone1-100,zone1-101 commerce/0".as_slice(),
+        b"EmergencyReparentShard -izone1-100,zone9-9,zone1-100 commerce/0".as_slice(),
+        b"EmergencyReparentShard --ignore-replicas=zone1-100 commerce/0 --expected-primary zone1-101".as_slice(),
+        b"EmergencyReparentShard --prevent-cross-cell-promotion --wait-replicas-timeout=86400s commerce/0".as_slice(),
+        b"start p EmergencyReparentShard commerce/0 --new-primary zone1-101\nfinish p".as_slice(),
+        b"start p PlannedReparentShard commerce/0 -- \nturn p 3".as_slice(),
+    ];
+    for line in lines {
+        assert_eq!(rt; fault_of(rt.alloc(), line)?, None);
+    }
+    Ok(())
+}
+
+#[test]
+fn reads_the_other_commands_of_a_shard(rt: HostRuntime) -> Result<(), Fail> {
+    let lines = [
+        b"TabletExternallyReparented zone1-101".as_slice(),
+        b"TabletExternallyReparented zone9-9".as_slice(),
+        b"GetShard commerce/0\nGetTablets commerce/0".as_slice(),
+        b"start g GetShard commerce/0\nstart t GetTablets commerce/0\nstart x TabletExternallyReparented zone1-100".as_slice(),
+    ];
+    for line in lines {
+        assert_eq!(rt; fault_of(rt.alloc(), line)?, None);
+    }
+    Ok(())
+}
+
+#[test]
+fn finds_faults_of_options(rt: HostRuntime) -> Result<(), Fail> {
+    let lines = [
+        b"PlannedReparentShard".as_slice(),
+        b"PlannedReparentShard commerce/1".as_slice(),
+        b"PlannedReparentShard commerce/0 commerce/0".as_slice(),
+        b"PlannedReparentShard commerce/0 --new-primary".as_slice(),
+        b"PlannedReparentShard commerce/0 --new-primary=".as_slice(),
+        b"PlannedReparentShard commerce/0 --new-primary -zone1-100".as_slice(),
+        b"PlannedReparentShard commerce/0 --new-primary=-zone1-100".as_slice(),
+        b"PlannedReparentShard commerce/0 --new-primary zone1-100 --new-primary=zone1-100".as_slice(),
+        b"PlannedReparentShard commerce/0 --new-prim zone1-100".as_slice(),
+        b"PlannedReparentShard commerce/0 -- --new-primary zone1-100".as_slice(),
+        b"PlannedReparentShard commerce/0 --wait-replicas-timeout 86401s".as_slice(),
+        b"PlannedReparentShard commerce/0 --wait-replicas-timeout 15".as_slice(),
+        b"PlannedReparentShard commerce/0 --allow-cross-cell-promotion --allow-cross-cell-promotion".as_slice(),
+        b"PlannedReparentShard commerce/0 --allow-cross-cell-promotion=true".as_slice(),
+        b"PlannedReparentShard commerce/0 --prevent-cross-cell-promotion".as_slice(),
+        b"PlannedReparentShard commerce/0 -i zone1-100".as_slice(),
+    ];
+    for line in lines {
+        assert_eq!(rt; fault_of(rt.alloc(), line)?, Some(4));
+    }
+    Ok(())
+}
+
+#[test]
+fn finds_faults_of_other_commands(rt: HostRuntime) -> Result<(), Fail> {
+    let lines = [
+        b"EmergencyReparentShard commerce/0 -i".as_slice(),
+        b"EmergencyReparentShard commerce/0 -i=".as_slice(),
+        b"EmergencyReparentShard commerce/0 -i zone1-100,".as_slice(),
+        b"EmergencyReparentShard commerce/0 -i-x-100".as_slice(),
+        b"EmergencyReparentShard commerce/0 -ignore".as_slice(),
+        b"EmergencyReparentShard commerce/0 -i zone1-100 --ignore-replicas zone1-101".as_slice(),
+        b"EmergencyReparentShard commerce/0 --avoid-primary zone1-100".as_slice(),
+        b"EmergencyReparentShard commerce/0 --allow-cross-cell-promotion".as_slice(),
+        b"TabletExternallyReparented -- zone1-100".as_slice(),
+        b"TabletExternallyReparented".as_slice(),
+        b"TabletExternallyReparented zone1-100 zone1-101".as_slice(),
+        b"GetShard commerce/1".as_slice(),
+        b"GetTablets".as_slice(),
+        b"GetTablets commerce".as_slice(),
+        b"show -- zone1-100".as_slice(),
+        b"vtorc".as_slice(),
+    ];
+    for line in lines {
+        assert_eq!(rt; fault_of(rt.alloc(), line)?, Some(4));
     }
     Ok(())
 }

@@ -1,3 +1,1 @@
-pub mod MomentLemmas
 pub mod NoteLemmas
-pub mod TextLemmas

@@ -1,5 +1,2 @@
-pub mod Moments
-pub mod Stands
-pub mod Refusals
 pub mod Texts
 pub mod Notes

@@ -10,7 +10,7 @@ use Rattle.shard_calls.specs.declared.event.Step.{Step}
 use Rattle.vtctld_text.specs.declared.begun.Begun.{Begun}
 use Rattle.vtctld_text.specs.declared.note.RefusedAction.{RefusedAction}
 use Rattle.vtctld_text.specs.declared.note.RefusedAction.TheVariants.{NoMessage, NotDeliverable, IsUp, IsDown}
-use Rattle.vtctld_text.specs.Stands.{line}
+use Rattle.tablet_text.specs.Stands.{line}
 use Rattle.vtctld_text.specs.Texts.{commands_of, event_text, text_of, has_refusal}
 
 -- ---- one action that was refused

@@ -13,7 +13,7 @@ use Rattle.gtid_sets.specs.Position.{Position}
 use Rattle.gtid_sets.specs.SetText.{position_text}
 use Rattle.gtid_sets.specs.declared.gtid.Gtid.{Gtid}
 use Rattle.shard_calls.specs.declared.command.Command.{Command}
-use Rattle.shard_calls.specs.declared.command.Command.TheVariants.{Planned, External, Write, Show}
+use Rattle.shard_calls.specs.declared.command.Command.TheVariants as commands
 use Rattle.shard_calls.specs.declared.ending.CommandAnswer.{CommandAnswer}
 use Rattle.shard_calls.specs.declared.ending.CommandAnswer.TheVariants as answers
 use Rattle.shard_calls.specs.declared.ending.NotJoined.{NotJoined}
@@ -24,8 +24,9 @@ use Rattle.shard_calls.specs.declared.event.Step.{Step}
 use Rattle.shard_calls.specs.declared.stand.Standing.{Standing}
 use Rattle.shard_calls.specs.World.{main_name, numbered}
 use Rattle.vtctld_text.specs.declared.begun.Begun.{Begun}
-use Rattle.vtctld_text.specs.Stands.{line, in_term_text, stands_text, standing_text, not_joined_text}
-use Rattle.vtctld_text.specs.Refusals.{refusal_text, is_out_of_memory}
+use Rattle.tablet_text.specs.Stands.{line, in_term_text, stands_text, standing_text, not_joined_text}
+use Rattle.tablet_text.specs.Refusals.{refusal_text, is_out_of_memory}
+use Rattle.tablet_text.specs.Json.{shard_json, tablets_json}
 
 -- ---- commands
 
@@ -36,6 +37,15 @@ prefix_text actor = if bytes_eq actor main_name then [] else codes "[" ++ actor 
 unfoldable pub planned_text : ShardName → List ℕ
 planned_text shard = codes "PlannedReparentShard " ++ shard_name_text shard
 
+unfoldable pub emergency_text : ShardName → List ℕ
+emergency_text shard = codes "EmergencyReparentShard " ++ shard_name_text shard
+
+unfoldable pub get_shard_text : ShardName → List ℕ
+get_shard_text shard = codes "GetShard " ++ shard_name_text shard
+
+unfoldable pub get_tablets_text : ShardName → List ℕ
+get_tablets_text shard = codes "GetTablets " ++ shard_name_text shard
+
 unfoldable pub external_text : Alias → List ℕ
 external_text a = codes "TabletExternallyReparented " ++ alias_text a
 
@@ -44,10 +54,13 @@ show_text a = codes "show " ++ alias_text a
 
 -- the command's word, and the shard or the tablet that it was given; options are left out
 abbrev pub command_text : Command → List ℕ
-command_text (Planned shard new_primary avoid expected timeout allow_cross_cell) = planned_text shard
-command_text (External a) = external_text a
-command_text (Write to) = codes "write"
-command_text (Show a) = show_text a
+command_text (commands.Planned shard new_primary avoid expected timeout allow_cross_cell) = planned_text shard
+command_text (commands.Emergency shard new_primary ignored expected timeout prevent_cross_cell) = emergency_text shard
+command_text (commands.External a) = external_text a
+command_text (commands.Write to) = codes "write"
+command_text (commands.Show a) = show_text a
+command_text (commands.GetShard shard) = get_shard_text shard
+command_text (commands.GetTablets shard) = get_tablets_text shard
 
 -- what each line of an answer begins with
 abbrev pub begin_text : Option Begun → List ℕ
@@ -107,6 +120,8 @@ said_text (answers.NotPrimary a stand) = not_primary_text a stand
 said_text answers.NoPrimaryRecorded = codes "no primary recorded"
 said_text (answers.Unknown g a term) = unknown_text g a term
 said_text (answers.Shown a stand position) = shown_text stand position
+said_text (answers.Shard shard recorded) = shard_json shard recorded
+said_text (answers.Tablets rows) = tablets_json rows
 
 -- the tablets that did not join a new primary
 abbrev pub left_of : CommandAnswer → List NotJoined
@@ -119,9 +134,29 @@ left_of (answers.NotPrimary a stand) = []
 left_of answers.NoPrimaryRecorded = []
 left_of (answers.Unknown g a term) = []
 left_of (answers.Shown a stand position) = []
+left_of (answers.Shard shard recorded) = []
+left_of (answers.Tablets rows) = []
+
+-- whether an answer is JSON, which is printed without the command
+abbrev pub is_json : CommandAnswer → Bool
+is_json (answers.Promoted a term left) = false
+is_json (answers.NothingToDo a) = false
+is_json (answers.Recorded term) = false
+is_json (answers.Refused refusal tried) = false
+is_json (answers.Committed g a term) = false
+is_json (answers.NotPrimary a stand) = false
+is_json answers.NoPrimaryRecorded = false
+is_json (answers.Unknown g a term) = false
+is_json (answers.Shown a stand position) = false
+is_json (answers.Shard shard recorded) = true
+is_json (answers.Tablets rows) = true
+
+-- what stands before what an answer says
+abbrev pub lead_text : Option Begun → CommandAnswer → List ℕ
+lead_text begun x = if is_json x then begin_text begun else head_text begun ++ codes ": "
 
 unfoldable pub first_line : Option Begun → CommandAnswer → List ℕ
-first_line begun x = line (head_text begun ++ codes ": " ++ said_text x)
+first_line begun x = line (lead_text begun x ++ said_text x)
 
 -- a line for each of these tablets
 abbrev pub left_lines : List ℕ → List NotJoined → List ℕ
@@ -197,6 +232,8 @@ is_refused (answers.NotPrimary a stand) = true
 is_refused answers.NoPrimaryRecorded = true
 is_refused (answers.Unknown g a term) = true
 is_refused (answers.Shown a stand position) = false
+is_refused (answers.Shard shard recorded) = false
+is_refused (answers.Tablets rows) = false
 
 abbrev pub refuses : Event → Bool
 refuses (events.Begin name command) = false

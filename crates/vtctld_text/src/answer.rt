@@ -2,18 +2,20 @@ ghost use Rattle.std.specs.Prelude.{◌≡◌, ◌++◌, ◌∷◌, [], OnOk, So
 ghost use Rattle.std.specs.Option.{option_copied};
 ghost use Rattle.std.specs.Str.{bytes_eq};
 ghost use Rattle.shard_calls.specs.World.{main_name};
-ghost use Rattle.vtctld_text.specs.Refusals.{is_out_of_memory};
-ghost use Rattle.vtctld_text.specs.Stands.{line, not_joined_text};
-ghost use Rattle.vtctld_text.specs.Texts.{prefix_text, planned_text, external_text, show_text, command_text, begin_text, head_text, promoted_text, nothing_to_do_text, recorded_text, undo_text, refused_text, written_text, committed_text, not_primary_text, unknown_text, shown_text, said_text, left_of, first_line, left_lines, answer_text, is_refused};
+ghost use Rattle.tablet_text.specs.Refusals.{is_out_of_memory};
+ghost use Rattle.tablet_text.specs.Stands.{line, not_joined_text};
+ghost use Rattle.tablet_text.specs.Json.{shard_json, tablets_json};
+ghost use Rattle.vtctld_text.specs.Texts.{prefix_text, planned_text, emergency_text, get_shard_text, get_tablets_text, external_text, show_text, command_text, begin_text, head_text, promoted_text, nothing_to_do_text, recorded_text, undo_text, refused_text, written_text, committed_text, not_primary_text, unknown_text, shown_text, said_text, is_json, lead_text, left_of, first_line, left_lines, answer_text, is_refused};
 
 use crate::begun::Begun;
-use crate::number::write_number;
-use crate::refusal::write_refusal;
-use crate::stand::{write_in_term, write_not_joined, write_standing, write_stands};
 use gtid_sets::{Gtid, GtidSet, write_position};
 use shard_base::OutOfMemory;
 use shard_calls::{Command, CommandAnswer, NotJoined, Refusal, Standing};
 use shard_names::{Alias, ShardName};
+use tablet_text::{
+    write_in_term, write_not_joined, write_number, write_refusal, write_shard, write_standing,
+    write_stands, write_tablets,
+};
 
 fn is_main(actor: &[u8]) -> bool
     ensures { result ≡ bytes_eq actor.now main_name }
@@ -43,6 +45,30 @@ fn write_planned(shard: &ShardName, into: &mut Vec<u8>) -> Result<(), OutOfMemor
     shard.write(into)
 }
 
+#[tactic(auto, unfolding(crate::specs::Texts::emergency_text))]
+fn write_emergency(shard: &ShardName, into: &mut Vec<u8>) -> Result<(), OutOfMemory>
+    ensures { OnOk result (into.new.items ≡ into.old.items ++ emergency_text shard.now) }
+{
+    into.extend_from_slice(b"EmergencyReparentShard ")?;
+    shard.write(into)
+}
+
+#[tactic(auto, unfolding(crate::specs::Texts::get_shard_text))]
+fn write_get_shard(shard: &ShardName, into: &mut Vec<u8>) -> Result<(), OutOfMemory>
+    ensures { OnOk result (into.new.items ≡ into.old.items ++ get_shard_text shard.now) }
+{
+    into.extend_from_slice(b"GetShard ")?;
+    shard.write(into)
+}
+
+#[tactic(auto, unfolding(crate::specs::Texts::get_tablets_text))]
+fn write_get_tablets(shard: &ShardName, into: &mut Vec<u8>) -> Result<(), OutOfMemory>
+    ensures { OnOk result (into.new.items ≡ into.old.items ++ get_tablets_text shard.now) }
+{
+    into.extend_from_slice(b"GetTablets ")?;
+    shard.write(into)
+}
+
 #[tactic(auto, unfolding(crate::specs::Texts::external_text))]
 fn write_external(alias: &Alias, into: &mut Vec<u8>) -> Result<(), OutOfMemory>
     ensures { OnOk result (into.new.items ≡ into.old.items ++ external_text alias.now) }
@@ -65,12 +91,15 @@ fn write_command(command: &Command, into: &mut Vec<u8>) -> Result<(), OutOfMemor
 {
     match command {
         Command::Planned { shard, .. } => write_planned(shard, into),
+        Command::Emergency { shard, .. } => write_emergency(shard, into),
         Command::External { alias } => write_external(alias, into),
         Command::Write { .. } => {
             into.extend_from_slice(b"write")?;
             Ok(())
         }
         Command::Show { alias } => write_show(alias, into),
+        Command::GetShard { shard } => write_get_shard(shard, into),
+        Command::GetTablets { shard } => write_get_tablets(shard, into),
     }
 }
 
@@ -245,7 +274,43 @@ fn write_said(answer: &CommandAnswer, into: &mut Vec<u8>) -> Result<(), OutOfMem
             position,
             ..
         } => write_shown(stand, position, into),
+        CommandAnswer::Shard { shard, recorded } => write_shard(shard, recorded, into),
+        CommandAnswer::Tablets { rows } => write_tablets(rows.as_slice(), into),
     }
+}
+
+fn is_json(answer: &CommandAnswer) -> bool
+    ensures { result ≡ is_json answer.now }
+{
+    match answer {
+        CommandAnswer::Promoted { .. } => false,
+        CommandAnswer::NothingToDo { .. } => false,
+        CommandAnswer::Recorded { .. } => false,
+        CommandAnswer::Refused { .. } => false,
+        CommandAnswer::Committed { .. } => false,
+        CommandAnswer::NotPrimary { .. } => false,
+        CommandAnswer::NoPrimaryRecorded => false,
+        CommandAnswer::Unknown { .. } => false,
+        CommandAnswer::Shown { .. } => false,
+        CommandAnswer::Shard { .. } => true,
+        CommandAnswer::Tablets { .. } => true,
+    }
+}
+
+/// Appends what stands before what an answer says.
+fn write_lead(
+    begun: Option<&Begun>,
+    answer: &CommandAnswer,
+    into: &mut Vec<u8>,
+) -> Result<(), OutOfMemory>
+    ensures { OnOk result (into.new.items ≡ into.old.items ++ lead_text (option_copied begun.entry) answer.now) }
+{
+    if is_json(answer) {
+        return write_begin(begun, into);
+    }
+    write_head(begun, into)?;
+    into.extend_from_slice(b": ")?;
+    Ok(())
 }
 
 #[tactic(auto, unfolding(crate::specs::Texts::first_line))]
@@ -256,8 +321,7 @@ fn write_first_line(
 ) -> Result<(), OutOfMemory>
     ensures { OnOk result (into.new.items ≡ into.old.items ++ first_line (option_copied begun.entry) answer.now) }
 {
-    write_head(begun, into)?;
-    into.extend_from_slice(b": ")?;
+    write_lead(begun, answer, into)?;
     write_said(answer, into)?;
     into.push(b'\n')?;
     Ok(())
@@ -327,5 +391,7 @@ pub(crate) fn is_refused(answer: &CommandAnswer) -> bool
         CommandAnswer::NoPrimaryRecorded => true,
         CommandAnswer::Unknown { .. } => true,
         CommandAnswer::Shown { .. } => false,
+        CommandAnswer::Shard { .. } => false,
+        CommandAnswer::Tablets { .. } => false,
     }
 }

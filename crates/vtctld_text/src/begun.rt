@@ -2,7 +2,7 @@ use shard_calls::Command;
 use shard_names::Name;
 
 /// A command that began, and the actor who gave it.
-#[derive(Clone, Copy)]
+#[derive(Drop)]
 pub(crate) struct Begun {
     pub(crate) actor: Name,
     pub(crate) command: Command,

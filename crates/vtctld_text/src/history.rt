@@ -9,10 +9,23 @@ ghost use Rattle.vtctld_text.specs.Notes.{texts_with, text_with, AreInPlace, has
 use crate::answer::{is_refused, write_answer};
 use crate::begun::Begun;
 use crate::note::write_notes_at;
-use shard_base::OutOfMemory;
+use shard_base::{Items, OutOfMemory};
 use shard_calls::{Command, Event, Note, Step};
 use shard_names::{Alias, Name};
 use std::alloc::Global;
+
+fn push_begun_command(
+    commands: &mut Vec<Begun>,
+    actor: Name,
+    command: Command,
+) -> Result<(), OutOfMemory>
+    ensures { OnOk result (commands.new.items ≡ commands.old.items ++ record { actor = actor; command = command } ∷ []) }
+{
+    let _to: Option<&Option<Alias>> = None;
+    let _ignored: Option<&Items<Alias>> = None;
+    commands.push(Begun { actor, command })?;
+    Ok(())
+}
 
 fn push_command(
     commands: &mut Vec<Begun>,
@@ -21,12 +34,8 @@ fn push_command(
 ) -> Result<(), OutOfMemory>
     ensures { OnOk result (commands.new.items ≡ commands.old.items ++ record { actor = actor.now; command = command.now } ∷ []) }
 {
-    let _to: Option<&Option<Alias>> = None;
-    commands.push(Begun {
-        actor: *actor,
-        command: *command,
-    })?;
-    Ok(())
+    let command = command.copy()?;
+    push_begun_command(commands, *actor, command)
 }
 
 /// Adds the command that an event begins, if it does.

@@ -5,14 +5,7 @@ mod answer;
 mod begun;
 mod history;
 mod laws;
-mod moment;
 mod note;
-mod number;
-mod reason;
-mod refusal;
-#[cfg(test)]
-mod refusal_tests;
-mod stand;
 #[cfg(test)]
 mod tests;
 

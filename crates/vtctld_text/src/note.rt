@@ -1,14 +1,14 @@
 ghost use Rattle.std.specs.Prelude.{◌≡◌, ◌+◌, ◌++◌, ◌==◌, OnOk, IfOk};
 ghost use Rattle.std.specs.List.{prefix_len};
 ghost use Rattle.std.specs.List.Sorted.{IsNonDecreasingBy};
-ghost use Rattle.vtctld_text.specs.Stands.{line};
+ghost use Rattle.tablet_text.specs.Stands.{line};
 ghost use Rattle.vtctld_text.specs.Notes.{no_message_text, not_deliverable_text, is_up_text, is_down_text, action_text, notes_at, note_lines, count_before};
 
-use crate::number::write_number;
 use shard_base::{Items, OutOfMemory};
 use shard_calls::Note;
 use shard_names::Alias;
 use std::alloc::Global;
+use tablet_text::write_number;
 
 /// A script action that was refused.
 #[derive(Clone, Copy)]

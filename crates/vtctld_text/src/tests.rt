@@ -1,6 +1,5 @@
 ghost use Rattle.std.specs.Prelude.{◌≡◌};
 
-use crate::moment::write_moment;
 use crate::{RefusedAction, action_line, has_refusal, has_refusal_with, text_of, text_with};
 use gtid_sets::{Gtid, GtidSet};
 use shard_base::{Items, OutOfMemory};
@@ -13,15 +12,15 @@ use std::process::Abort;
 use std::test::Fail;
 use uuid::Uuid;
 
-pub(crate) fn alias(rt: &impl Abort, text: &[u8]) -> Alias {
+fn alias(rt: &impl Abort, text: &[u8]) -> Alias {
     Alias::read(text).ok().expect(rt, "an alias")
 }
 
-pub(crate) fn name(rt: &impl Abort, text: &[u8]) -> Name {
+fn name(rt: &impl Abort, text: &[u8]) -> Name {
     Name::from_slice(text).expect(rt, "a name")
 }
 
-pub(crate) fn gtid(last: u8, number: u64) -> Gtid {
+fn gtid(last: u8, number: u64) -> Gtid {
     Gtid {
         server: Uuid::from_bytes([0, 0, 0, 0, 0, 0, 0x40, 0, 0x80, 0, 0, 0, 0, 0, 1, last]),
         number,
@@ -68,28 +67,6 @@ fn text_by(
     text_of(alloc, &steps)
 }
 
-fn moment(alloc: Global, milliseconds: u64) -> Result<Vec<u8>, OutOfMemory> {
-    let mut text = Vec::new(alloc);
-    write_moment(milliseconds, &mut text)?;
-    Ok(text)
-}
-
-#[test]
-fn prints_moments(rt: HostRuntime) -> Result<(), Fail> {
-    let alloc = rt.alloc();
-    let start = moment(alloc, 0)?;
-    assert_eq!(rt; start.as_slice(), b"1970-01-01T00:00:00.000Z".as_slice());
-    let clock = moment(alloc, 1704067200000)?;
-    assert_eq!(rt; clock.as_slice(), b"2024-01-01T00:00:00.000Z".as_slice());
-    let leap_day = moment(alloc, 1709210096789)?;
-    assert_eq!(rt; leap_day.as_slice(), b"2024-02-29T12:34:56.789Z".as_slice());
-    let last = moment(alloc, 253370764799999)?;
-    assert_eq!(rt; last.as_slice(), b"9998-12-31T23:59:59.999Z".as_slice());
-    let later = moment(alloc, 253402300800000)?;
-    assert_eq!(rt; later.as_slice(), b"9999-12-31T23:59:59.999Z".as_slice());
-    Ok(())
-}
-
 #[test]
 fn prints_promotions(rt: HostRuntime) -> Result<(), Fail> {
     let alloc = rt.alloc();
@@ -108,7 +85,7 @@ fn push_left(left: &mut Items<NotJoined>, alias: Alias, cause: Left) -> Result<(
     left.push(NotJoined { alias, left: cause })
 }
 
-pub(crate) fn one(alloc: Global, gtid: Gtid) -> Result<GtidSet, OutOfMemory> {
+fn one(alloc: Global, gtid: Gtid) -> Result<GtidSet, OutOfMemory> {
     let mut set = GtidSet::empty(alloc);
     set.add(gtid)?;
     Ok(set)
@@ -349,6 +326,69 @@ fn prints_that_nothing_was_to_do(rt: HostRuntime) -> Result<(), Fail> {
     let text = text_by(rt.alloc(), name(&rt, b"main"), planned(&rt), answer)?;
     let want = b"PlannedReparentShard commerce/0: nothing to do, primary is zone1-0000000100\n";
     assert_eq!(rt; text.as_slice(), want.as_slice());
+    Ok(())
+}
+
+fn commerce(rt: &impl Abort) -> ShardName {
+    ShardName::read(b"commerce/0").expect(rt, "a shard's name")
+}
+
+#[test]
+fn prints_emergencies(rt: HostRuntime) -> Result<(), Fail> {
+    let command = Command::Emergency {
+        shard: commerce(&rt),
+        new_primary: None,
+        ignored: Items::new(rt.alloc()),
+        expected: None,
+        timeout: None,
+        prevent_cross_cell: false,
+    };
+    let answer = CommandAnswer::Refused {
+        refusal: Refusal::BothGiven,
+        undone: None,
+    };
+    let text = text_by(rt.alloc(), name(&rt, b"e"), command, answer)?;
+    let want = b"[e] EmergencyReparentShard commerce/0: refused 6 BothGiven\n";
+    assert_eq!(rt; text.as_slice(), want.as_slice());
+    Ok(())
+}
+
+#[test]
+fn prints_json_without_the_command(rt: HostRuntime) -> Result<(), Fail> {
+    let answer = CommandAnswer::Shard {
+        shard: commerce(&rt),
+        recorded: None,
+    };
+    let command = Command::GetShard {
+        shard: commerce(&rt),
+    };
+    let text = text_by(rt.alloc(), name(&rt, b"g"), command, answer)?;
+    let want =
+        b"[g] {\"keyspace\":\"commerce\",\"primary_alias\":null,\"primary_term_start_time\":null,\"shard\":\"0\",\"term\":0}\n";
+    assert_eq!(rt; text.as_slice(), want.as_slice());
+    let rows = Items::new(rt.alloc());
+    let command = Command::GetTablets {
+        shard: commerce(&rt),
+    };
+    let text = text_by(
+        rt.alloc(),
+        name(&rt, b"main"),
+        command,
+        CommandAnswer::Tablets { rows },
+    )?;
+    assert_eq!(rt; text.as_slice(), b"[]\n".as_slice());
+    let command = Command::GetShard {
+        shard: commerce(&rt),
+    };
+    let full = CommandAnswer::Refused {
+        refusal: Refusal::OutOfMemory,
+        undone: None,
+    };
+    let text = text_by(rt.alloc(), name(&rt, b"main"), command, full)?;
+    assert_eq!(rt;
+        text.as_slice(),
+        b"GetShard commerce/0: refused 20 OutOfMemory\n".as_slice()
+    );
     Ok(())
 }
 

@@ -1,6 +1,7 @@
 use Rattle.std.proofs.Common.{◌∙◌}
 use Rattle.uuid.specs.Text.{parsed}
-use Rattle.shard_script.proofs.OptionLemmas.{ok_is_option, server_is, server_is_none}
+use Rattle.script_commands.proofs.OptionLemmas.{ok_is_option}
+use Rattle.shard_script.proofs.ServerLemmas.{server_is, server_is_none}
 use Rattle.shard_script.proofs.line.read_server.Goals as goal
 
 pub returns-then-text-ne36 : goal.returns-then-text-ne36

@@ -1,7 +1,7 @@
 use Rattle.std.specs.Prelude.{codes}
 use Rattle.shard_names.specs.Alias.{alias_text}
 use Rattle.vtctld_text.specs.Texts.{external_text}
-use Rattle.vtctld_text.proofs.TextLemmas.{piece_behind}
+use Rattle.tablet_text.proofs.TextLemmas.{piece_behind}
 use Rattle.vtctld_text.proofs.answer.write_external.Goals as goal
 
 pub returns : goal.returns

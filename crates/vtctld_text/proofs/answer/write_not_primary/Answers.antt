@@ -1,7 +1,7 @@
 use Rattle.std.specs.Prelude.{codes}
-use Rattle.vtctld_text.specs.Stands.{stands_text}
+use Rattle.tablet_text.specs.Stands.{stands_text}
 use Rattle.vtctld_text.specs.Texts.{not_primary_text}
-use Rattle.vtctld_text.proofs.TextLemmas.{piece_behind}
+use Rattle.tablet_text.proofs.TextLemmas.{piece_behind}
 use Rattle.vtctld_text.proofs.answer.write_not_primary.Goals as goal
 
 pub returns : goal.returns

@@ -1,7 +1,7 @@
 use Rattle.std.specs.Prelude.{codes}
 use Rattle.std.specs.Fmt.{decimal}
 use Rattle.vtctld_text.specs.Texts.{recorded_text}
-use Rattle.vtctld_text.proofs.TextLemmas.{piece_behind}
+use Rattle.tablet_text.proofs.TextLemmas.{piece_behind}
 use Rattle.vtctld_text.proofs.answer.write_recorded.Goals as goal
 
 pub returns : goal.returns

@@ -1,7 +1,7 @@
 use Rattle.std.specs.Prelude.{codes}
 use Rattle.std.specs.Fmt.{decimal}
 use Rattle.vtctld_text.specs.Notes.{not_deliverable_text}
-use Rattle.vtctld_text.proofs.TextLemmas.{three_pieces}
+use Rattle.tablet_text.proofs.TextLemmas.{three_pieces}
 use Rattle.vtctld_text.proofs.note.write_not_deliverable.Goals as goal
 
 pub returns : goal.returns
