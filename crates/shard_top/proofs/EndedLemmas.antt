@@ -10,6 +10,7 @@ use Rattle.topo_lock.specs.Topology.{answer_take, answer_intend, answer_record}
 use Rattle.topo_lock.specs.declared.lock.LockTaken.{LockTaken}
 use Rattle.topo_lock.specs.declared.lock.TopoFault.{TopoFault}
 use Rattle.topo_lock.specs.declared.lock.TopoFault.TheVariants as faults
+use Rattle.shard_calls.proofs.ActLemmas.{list_delivery, list_up, list_offer}
 use Rattle.shard_calls.proofs.ListLemmas.{slice_get-append}
 use Rattle.shard_calls.specs.Tablets.{TabletState}
 use Rattle.shard_calls.specs.World.{Config, World, opening, numbered, changed, changed_at, with_act, next_message, open_command, term_of}
@@ -27,9 +28,9 @@ use Rattle.shard_calls.specs.declared.outcome.Written.TheVariants as writtens
 use Rattle.shard_calls.specs.declared.state.Act.{Act}
 use Rattle.shard_calls.specs.declared.state.Act.TheVariants as acts
 use Rattle.shard_calls.specs.declared.state.CommandState.{CommandState}
-use Rattle.planned.proofs.CommandFitLemmas.{LeavesAlone, delivery_alone, up_alone, offer_alone, local_alone}
 use Rattle.shard_top.specs.Played.{Want}
 use Rattle.shard_top.specs.Playing.{is_ended, HaveEnded, HasBegun}
+use Rattle.shard_top.proofs.OwnLemmas.{list_local}
 
 -- the command that was x is there, and ended where x was
 abbrev Stays : Option CommandState → CommandState → Type 0
@@ -82,10 +83,10 @@ term_stays w b v f None c x is keeps h = as_it_was _ x h
 term_stays w b v f (Some t) c x is keeps h =
     subst (λ (xs : List CommandState). Stays (numbered xs c) x) (sym (is t)) (command_stays w b (f t) c x (keeps t) h)
 
-intended_keeps : (r : Result (Unit {0}) TopoFault) → KeepsEnd (with_intended r)
-intended_keeps (Ok u) s e = e
-intended_keeps (Err (faults.LockLost current)) s e = e
-intended_keeps (Err (faults.IntentStands a)) s e = e
+intended_keeps : (a : Alias) (r : Result (Unit {0}) TopoFault) → KeepsEnd (with_intended a r)
+intended_keeps a (Ok u) s e = e
+intended_keeps a (Err (faults.LockLost current)) s e = e
+intended_keeps a (Err (faults.IntentStands b)) s e = e
 
 recorded_keeps : (a : Alias) (r : Result (Unit {0}) TopoFault) → KeepsEnd (with_recorded a r)
 recorded_keeps a (Ok u) s e = e
@@ -115,26 +116,26 @@ end_stays : (w : World) (b : ℕ) (o : Option CommandState) (c : ℕ) (x : Comma
 end_stays w b None c x h = as_it_was _ x h
 end_stays w b (Some s) c x h = changed_at_stays w.commands b _ c x (λ y e. refl) h
 
-alone_stays : (w v : World) (c : ℕ) (x : CommandState) → LeavesAlone w v → numbered w.commands c ≡ Some x → Stays (numbered v.commands c) x
-alone_stays w v c x alone h = as_it_was _ x (ap (λ (xs : List CommandState). numbered xs c) alone.commands ∙ h)
+alone_stays : (w v : World) (c : ℕ) (x : CommandState) → v.commands ≡ w.commands → numbered w.commands c ≡ Some x → Stays (numbered v.commands c) x
+alone_stays w v c x alone h = as_it_was _ x (ap (λ (xs : List CommandState). numbered xs c) alone ∙ h)
 
 stays : (config : Config) (w : World) (e : Event) (c : ℕ) (x : CommandState) → numbered w.commands c ≡ Some x → Stays (numbered (after config w e).commands c) x
 stays config w (events.Begin name command) c x h = pushed_stays w.commands (begun_state w name command) c x h
 stays config w (events.Take b) c x h = take_stays w b (open_command w b) c x h
 stays config w (events.Read b) c x h = term_stays w b (reads w b) (λ t. with_act (read_act w.topo t)) (term_of w b) c x (λ t. refl) (λ t s e. e) h
 stays config w (events.Intend b a) c x h =
-    term_stays w b (intends_in w b a) (λ t. with_intended (answer_intend w.topo t a)) (term_of w b) c x (λ t. refl) (λ t. intended_keeps (answer_intend w.topo t a)) h
+    term_stays w b (intends_in w b a) (λ t. with_intended a (answer_intend w.topo t a)) (term_of w b) c x (λ t. refl) (λ t. intended_keeps a (answer_intend w.topo t a)) h
 stays config w (events.Record b a) c x h =
     term_stays w b (records_in w b a) (λ t. with_recorded a (answer_record w.topo t)) (term_of w b) c x (λ t. refl) (λ t. recorded_keeps a (answer_record w.topo t)) h
 stays config w (events.Release b) c x h = term_stays w b (releases_in w b) (λ t. as_released) (term_of w b) c x (λ t. refl) (λ t s e. e) h
 stays config w events.Lapse c x h = as_it_was _ x h
 stays config w (events.Send b a call) c x h = command_stays w b (with_act (acts.Sent (next_message w))) c x (λ s e. e) h
-stays config w (events.Deliver k) c x h = alone_stays w _ c x (delivery_alone config w k (numbered w.post k)) h
-stays config w (events.GiveUp b k) c x h = alone_stays w _ c x (up_alone w k (why_given_up w b k)) h
-stays config w (events.Offer a) c x h = alone_stays w _ c x (offer_alone w (offer_to w a)) h
+stays config w (events.Deliver k) c x h = alone_stays w (after config w (events.Deliver k)) c x (list_delivery config w k (numbered w.post k)) h
+stays config w (events.GiveUp b k) c x h = alone_stays w (after config w (events.GiveUp b k)) c x (list_up w k (why_given_up w b k)) h
+stays config w (events.Offer a) c x h = alone_stays w (after config w (events.Offer a)) c x (list_offer w (offer_to w a)) h
 stays config w (events.Write b a) c x h = write_stays config w b a (open_command w b) c x h
 stays config w (events.Tell b) c x h = told_stays w b (tell_of w b >>= told_act) c x h
-stays config w (events.Local a) c x h = alone_stays w _ c x (local_alone config w a) h
+stays config w (events.Local a) c x h = alone_stays w (after config w (events.Local a)) c x (list_local config w a) h
 stays config w (events.Crash a keep) c x h = as_it_was _ x h
 stays config w (events.Restart a) c x h = as_it_was _ x h
 stays config w (events.Cut y z) c x h = as_it_was _ x h
@@ -218,17 +219,17 @@ unfolding Grown
 grows config w (events.Begin name command) = omega (arith, length-append w.commands (begun_state w name command ∷ []))
 grows config w (events.Take b) = take_grows w b (open_command w b)
 grows config w (events.Read b) = term_grows w b (reads w b) (λ t. with_act (read_act w.topo t)) (term_of w b) (λ t. refl)
-grows config w (events.Intend b a) = term_grows w b (intends_in w b a) (λ t. with_intended (answer_intend w.topo t a)) (term_of w b) (λ t. refl)
+grows config w (events.Intend b a) = term_grows w b (intends_in w b a) (λ t. with_intended a (answer_intend w.topo t a)) (term_of w b) (λ t. refl)
 grows config w (events.Record b a) = term_grows w b (records_in w b a) (λ t. with_recorded a (answer_record w.topo t)) (term_of w b) (λ t. refl)
 grows config w (events.Release b) = term_grows w b (releases_in w b) (λ t. as_released) (term_of w b) (λ t. refl)
 grows config w events.Lapse = omega arith
 grows config w (events.Send b a call) = changed_grows w.commands b _
-grows config w (events.Deliver k) = same_grows w (after config w (events.Deliver k)) (delivery_alone config w k (numbered w.post k)).commands
-grows config w (events.GiveUp b k) = same_grows w (after config w (events.GiveUp b k)) (up_alone w k (why_given_up w b k)).commands
-grows config w (events.Offer a) = same_grows w (after config w (events.Offer a)) (offer_alone w (offer_to w a)).commands
+grows config w (events.Deliver k) = same_grows w (after config w (events.Deliver k)) (list_delivery config w k (numbered w.post k))
+grows config w (events.GiveUp b k) = same_grows w (after config w (events.GiveUp b k)) (list_up w k (why_given_up w b k))
+grows config w (events.Offer a) = same_grows w (after config w (events.Offer a)) (list_offer w (offer_to w a))
 grows config w (events.Write b a) = write_grows config w b a (open_command w b)
 grows config w (events.Tell b) = told_grows w b (tell_of w b >>= told_act)
-grows config w (events.Local a) = same_grows w (after config w (events.Local a)) (local_alone config w a).commands
+grows config w (events.Local a) = same_grows w (after config w (events.Local a)) (list_local config w a)
 grows config w (events.Crash a keep) = omega arith
 grows config w (events.Restart a) = omega arith
 grows config w (events.Cut x y) = omega arith

@@ -34,7 +34,7 @@ use Rattle.shard_top.specs.declared.player.Start.{Start}
 use Rattle.shard_top.specs.declared.player.Start.TheVariants as starts_as
 use Rattle.shard_top.specs.declared.player.Move.{Move}
 use Rattle.shard_top.specs.declared.player.Move.TheVariants as moves
-use Rattle.shard_top.specs.Played.{delivery, offer, arrival, pump, asked, gives, turned, finished, turns_on, finishes_on, gives_on, settles, go_on, turn_of, finish_of, unless_refused, starts, first_of, start_at, move_on, plain_move}
+use Rattle.shard_top.specs.Played.{delivery, offer, arrival, pump, asked, gives, turned, finished, turns_on, finishes_on, played_at, gives_by, gives_on, settles, go_on, turn_of, finish_of, unless_refused, starts, first_of, start_at, move_on, plain_move}
 
 pub record Fair (config : Config) (w : World) (e : Event) : Type 0 where
   pub met : Met config w e
@@ -64,12 +64,12 @@ asked_by config w e task false of_none is = tt
 asked_fair : (config : Config) (w : World) (e : Event) (task : Task) → maker_of e ≡ None → FairGo config w (asked config w e task)
 asked_fair config w e task of_none = asked_by config w e task (meets config w e) of_none refl
 
-gives_by : (config : Config) (w : World) (b : Bool) (g : Go) → FairGo config w g → FairGo config w (cond b goes.Finished g)
-gives_by config w true g h = tt
-gives_by config w false g h = h
+unless_none : (config : Config) (w : World) (b : Bool) (g : Go) → FairGo config w g → FairGo config w (cond b goes.Finished g)
+unless_none config w true g h = tt
+unless_none config w false g h = h
 
 gives_fair : (config : Config) (w : World) (command : Command) (count : ℕ) → FairGo config w (gives config w command count)
-gives_fair config w command count = gives_by config w (count == 0) _ (asked_fair config w (events.Begin main_name command) _ refl)
+gives_fair config w command count = unless_none config w (count == 0) _ (asked_fair config w (events.Begin main_name command) _ refl)
 
 next_fair : (config : Config) (w : World) (c : ℕ) (e : Event) → NextIsMet config w → next config w c ≡ Some e → Fair config w e
 next_fair config w c e course is = record { met = course c e is; of_course = next_keeps config w c e is }
@@ -168,7 +168,7 @@ settles_fair config w (Some e) is = arrival_fair config w e is
 
 turned_fair : (config : Config) (w : World) (c left : ℕ) (o : Option Event) → NextIsMet config w → pump config w c ≡ o → FairGo config w (turned c left o)
 turned_fair config w c left None course is = tt
-turned_fair config w c left (Some e) course is = gives_by config w (left == 0) _ (pump_fair config w c e course is)
+turned_fair config w c left (Some e) course is = unless_none config w (left == 0) _ (pump_fair config w c e course is)
 
 finished_fair : (config : Config) (w : World) (c : ℕ) (s : CommandState) (task : Task) (o : Option Event) → NextIsMet config w → pump config w c ≡ o
     → FairGo config w (finished s task o)
@@ -183,27 +183,31 @@ finishes_fair : (config : Config) (w : World) (c : ℕ) (o : Option CommandState
 finishes_fair config w c None course = tt
 finishes_fair config w c (Some s) course = finished_fair config w c s (tasks.Finishes c) (pump config w c) course refl
 
-gives_on_fair : (config : Config) (w : World) (c : ℕ) (command : Command) (again : ℕ) (o : Option CommandState) → NextIsMet config w
-    → FairGo config w (gives_on config w c command again o)
-gives_on_fair config w c command again None course = gives_fair config w command again
-gives_on_fair config w c command again (Some s) course = finished_fair config w c s (tasks.Gives c command again) (pump config w c) course refl
+gives_by_fair : (config : Config) (w : World) (given : Option Command) (again : ℕ) → FairGo config w (gives_by config w given again)
+gives_by_fair config w None again = tt
+gives_by_fair config w (Some command) again = gives_fair config w command again
 
-go_on_fair : (config : Config) (w : World) (task : Task) → NextIsMet config w → FairGo config w (go_on config w task)
-go_on_fair config w tasks.Free course = tt
-go_on_fair config w (tasks.Turns c left) course = turns_fair config w c left (open_command w c) course
-go_on_fair config w (tasks.Finishes c) course = finishes_fair config w c (open_command w c) course
-go_on_fair config w (tasks.Gives c command again) course = gives_on_fair config w c command again (open_command w c) course
-go_on_fair config w tasks.Settles course = settles_fair config w (arrival config w) refl
+gives_on_fair : (config : Config) (w : World) (c : ℕ) (given : Option Command) (again : ℕ) (o : Option CommandState) → NextIsMet config w
+    → FairGo config w (gives_on config w c given again o)
+gives_on_fair config w c given again None course = gives_by_fair config w given again
+gives_on_fair config w c given again (Some s) course = finished_fair config w c s (tasks.Gives c again) (pump config w c) course refl
+
+go_on_fair : (config : Config) (w : World) (lines : List Action) (line : ℕ) (task : Task) → NextIsMet config w → FairGo config w (go_on config w lines line task)
+go_on_fair config w lines line tasks.Free course = tt
+go_on_fair config w lines line (tasks.Turns c left) course = turns_fair config w c left (open_command w c) course
+go_on_fair config w lines line (tasks.Finishes c) course = finishes_fair config w c (open_command w c) course
+go_on_fair config w lines line (tasks.Gives c again) course = gives_on_fair config w c (played_at lines line) again (open_command w c) course
+go_on_fair config w lines line tasks.Settles course = settles_fair config w (arrival config w) refl
 
 -- ---- lines
 
 turn_fair : (config : Config) (w : World) (pumps : ℕ) (o : Option ℕ) → NextIsMet config w → FairGo config w (turn_of config w pumps o)
 turn_fair config w pumps None course = tt
-turn_fair config w pumps (Some c) course = go_on_fair config w (tasks.Turns c pumps) course
+turn_fair config w pumps (Some c) course = turns_fair config w c pumps (open_command w c) course
 
 finish_fair : (config : Config) (w : World) (o : Option ℕ) → NextIsMet config w → FairGo config w (finish_of config w o)
 finish_fair config w None course = tt
-finish_fair config w (Some c) course = go_on_fair config w (tasks.Finishes c) course
+finish_fair config w (Some c) course = finishes_fair config w c (open_command w c) course
 
 unless_by : (config : Config) (w : World) (e : Event) (refused : RefusedAction) (b : Bool) → maker_of e ≡ None → meets config w e ≡ b
     → FairStart config w (cond b (starts_as.Goes (goes.Makes e tasks.Free)) (starts_as.Notes refused))
@@ -247,4 +251,4 @@ move_on_fair config w lines p goes.Finished course h = start_fair config w p.not
 
 -- what a player does with memory
 pub plain_fair : (config : Config) (w : World) (lines : List Action) (p : Player) → NextIsMet config w → FairMove config w (plain_move config w lines p)
-plain_fair config w lines p course = move_on_fair config w lines p (go_on config w p.task) course (go_on_fair config w p.task course)
+plain_fair config w lines p course = move_on_fair config w lines p (go_on config w lines p.line p.task) course (go_on_fair config w lines p.line p.task course)

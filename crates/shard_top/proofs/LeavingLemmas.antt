@@ -6,11 +6,7 @@ use Rattle.shard_base.specs.Options.{only_if}
 use Rattle.shard_names.proofs.TabletLemmas.{both_right}
 use Rattle.shard_calls.specs.World.{Config, World, open_command}
 use Rattle.shard_core.specs.Room.{is_unreleased, has_room_kept}
-use Rattle.shard_calls.specs.Causes.{has_command_cause}
 use Rattle.shard_calls.specs.Table.{Met}
-use Rattle.shard_calls.specs.declared.command.Command.{Command}
-use Rattle.shard_calls.specs.declared.command.Command.TheVariants as commands
-use Rattle.shard_calls.specs.declared.ending.CommandAnswer.{CommandAnswer}
 use Rattle.shard_calls.specs.declared.ending.CommandAnswer.TheVariants as answers
 use Rattle.shard_calls.specs.declared.refusal.Refusal.TheVariants as refusals
 use Rattle.shard_calls.specs.declared.event.Event.{Event}
@@ -28,7 +24,7 @@ use Rattle.shard_top.specs.declared.player.Move.TheVariants as moves
 use Rattle.shard_top.specs.Played.{plain_move}
 use Rattle.shard_top.specs.Playing.{still_open}
 use Rattle.planned.proofs.FollowLemmas.{leaving_keeps}
-use Rattle.planned.proofs.NextLemmas.{leaving_met}
+use Rattle.planned.proofs.NextLemmas.{refusing_met}
 use Rattle.shard_top.proofs.FairLemmas.{Fair, FairMove, plain_fair}
 
 -- ---- what it does is met, and of its course
@@ -48,17 +44,8 @@ some_of : {A : Type 0} (o : Option A) → is_some o ≡ true → (x : A) × (o �
 some_of None h = absurd (false≢true h)
 some_of (Some x) h = (x, refl)
 
--- memory may run out for any command
-free_cause : (config : Config) (w : World) (s : CommandState) (command : Command) → has_command_cause config w s command (answers.Refused refusals.OutOfMemory None) ≡ true
-free_cause config w s (commands.Planned shard given avoid expected timeout allow_cross_cell) = refl
-free_cause config w s (commands.External a) = refl
-free_cause config w s (commands.Write to) = refl
-free_cause config w s (commands.Show a) = refl
-
 leaves_met : (config : Config) (w : World) (c : ℕ) (s : CommandState) → open_command w c ≡ Some s → Met config w (leaves w c)
-leaves_met config w c s found =
-    subst (λ (o : Option CommandState). Met config w (leaves_by c o)) (sym found)
-    (leaving_met config w c s (answers.Refused refusals.OutOfMemory None) found (free_cause config w s s.command)).0
+leaves_met config w c s found = subst (λ (o : Option CommandState). Met config w (leaves_by c o)) (sym found) (refusing_met config w c s found)
 
 pub leave_fair : (config : Config) (w : World) (c : ℕ) → is_some (open_command w c) ≡ true → Fair config w (leaves w c)
 leave_fair config w c opened =
@@ -98,14 +85,14 @@ fair_open config w e c fair made = course_open config w c e (fair.of_course c ma
 unreleased : (o : Option CommandState) (s : CommandState) → o ≡ Some s → is_unreleased o ≡ not s.released
 unreleased o s is = ap (λ (v : Option CommandState). is_unreleased v) is
 
-room_by : (w : World) (c : ℕ) (s : CommandState) (x : CommandAnswer) (b : Bool) → owes_release s ≡ b → open_command w c ≡ Some s
-    → has_room_kept w (cond b (events.Release c) (events.End c x)) ≡ true
-room_by w c s x true owes is = unreleased (open_command w c) s is ∙ both_right (is_some s.term) (not s.released) owes
-room_by w c s x false owes is = refl
+room_by : (w : World) (c : ℕ) (s : CommandState) (b : Bool) → owes_release s ≡ b → open_command w c ≡ Some s
+    → has_room_kept w (cond b (events.Release c) (events.End c (answers.Refused refusals.OutOfMemory None))) ≡ true
+room_by w c s true owes is = unreleased (open_command w c) s is ∙ both_right (is_some s.term) (not s.released) owes
+room_by w c s false owes is = refl
 
 room_of : (w : World) (c : ℕ) (o : Option CommandState) → open_command w c ≡ o → is_some o ≡ true → has_room_kept w (leaves_by c o) ≡ true
 room_of w c None is opened = absurd (false≢true opened)
-room_of w c (Some s) is opened = room_by w c s (answers.Refused refusals.OutOfMemory None) (owes_release s) refl is
+room_of w c (Some s) is opened = room_by w c s (owes_release s) refl is
 
 pub leaves_kept : (w : World) (c : ℕ) → is_some (open_command w c) ≡ true → has_room_kept w (leaves w c) ≡ true
 leaves_kept w c opened = room_of w c (open_command w c) refl opened

@@ -1,7 +1,7 @@
 pub mod StreamLemmas
 pub mod LongerLemmas
-pub mod EndedLemmas
 pub mod OwnLemmas
+pub mod EndedLemmas
 pub mod ProgramLemmas
 pub mod ProgramMoves
 pub mod FairLemmas

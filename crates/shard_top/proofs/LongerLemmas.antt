@@ -180,7 +180,7 @@ go_onward config w lines p goes.Finished =
     (start_between config w p.noted p.line (p.line + length (drop p.line lines)) (drop p.line lines) refl)
 
 want_onward : (config : Config) (w : World) (lines : List Action) (p : Player) (o : Option Want) → Onward lines p (wanting config w lines p o)
-want_onward config w lines p None = go_onward config w lines p (go_on config w p.task)
+want_onward config w lines p None = go_onward config w lines p (go_on config w lines p.line p.task)
 want_onward config w lines p (Some m) = (refl, omega arith, λ le. le)
 
 pub onward : (config : Config) (wants : List Want) (lines : List Action) (w : World) (p : Player) → Onward lines p (move config wants lines w p)

@@ -13,9 +13,10 @@ use Rattle.topo_lock.specs.Topology.{answer_take, answer_intend, answer_record}
 use Rattle.topo_lock.specs.declared.lock.LockTaken.{LockTaken}
 use Rattle.topo_lock.specs.declared.lock.TopoFault.{TopoFault}
 use Rattle.topo_lock.specs.declared.lock.TopoFault.TheVariants as faults
+use Rattle.shard_calls.proofs.ActLemmas.{list_declared, list_delivery, list_up, list_offer}
 use Rattle.shard_calls.proofs.ListLemmas.{numbered-push_cases, changed_at_cases}
-use Rattle.shard_calls.specs.Tablets.{TabletState}
-use Rattle.shard_calls.specs.World.{Config, World, opening, numbered, changed, changed_at, if_open, with_act, next_message, open_command, term_of}
+use Rattle.shard_calls.specs.Tablets.{TabletState, writes_local}
+use Rattle.shard_calls.specs.World.{Config, World, on_tablet, numbered, changed_at, if_open, with_act, next_message, open_command, term_of}
 use Rattle.shard_calls.specs.Messages.{why_given_up, offer_to}
 use Rattle.shard_calls.specs.Begins.{begun_state, ends_by}
 use Rattle.shard_calls.specs.Locks.{with_taken, takes_by, by_term, read_act, reads, with_intended, intends_in, with_recorded, records_in, as_released, releases_in}
@@ -30,7 +31,6 @@ use Rattle.shard_calls.specs.declared.outcome.Written.TheVariants as writtens
 use Rattle.shard_calls.specs.declared.state.Act.{Act}
 use Rattle.shard_calls.specs.declared.state.Act.TheVariants as acts
 use Rattle.shard_calls.specs.declared.state.CommandState.{CommandState}
-use Rattle.planned.proofs.CommandFitLemmas.{LeavesAlone, delivery_alone, up_alone, offer_alone, local_alone}
 use Rattle.shard_top.specs.Programs.{given_by, begun_by}
 
 -- ---- who has a command open
@@ -86,10 +86,10 @@ term_was w b v f None c y is keeps h runs = as_it_was _ y h runs
 term_was w b v f (Some t) c y is keeps h runs =
     command_was w b (f t) c y (keeps t) (subst (λ (xs : List CommandState). numbered xs c ≡ Some y) (is t) h) runs
 
-intended_keeps : (r : Result (Unit {0}) TopoFault) → KeepsMaker (with_intended r)
-intended_keeps (Ok u) s e = (e, refl)
-intended_keeps (Err (faults.LockLost current)) s e = (e, refl)
-intended_keeps (Err (faults.IntentStands a)) s e = (e, refl)
+intended_keeps : (a : Alias) (r : Result (Unit {0}) TopoFault) → KeepsMaker (with_intended a r)
+intended_keeps a (Ok u) s e = (e, refl)
+intended_keeps a (Err (faults.LockLost current)) s e = (e, refl)
+intended_keeps a (Err (faults.IntentStands b)) s e = (e, refl)
 
 recorded_keeps : (a : Alias) (r : Result (Unit {0}) TopoFault) → KeepsMaker (with_recorded a r)
 recorded_keeps a (Ok u) s e = (e, refl)
@@ -119,8 +119,11 @@ end_was : (w : World) (b : ℕ) (o : Option CommandState) (c : ℕ) (y : Command
 end_was w b None c y h runs = as_it_was _ y h runs
 end_was w b (Some s) c y h runs = changed_was w.commands b (λ x. record x { ended = true }) c y (λ x e. absurd (false≢true (sym e))) h runs
 
-alone_was : (w v : World) (c : ℕ) (y : CommandState) → LeavesAlone w v → numbered v.commands c ≡ Some y → y.ended ≡ false → Was (numbered w.commands c) y
-alone_was w v c y alone h runs = as_it_was _ y (ap (λ (xs : List CommandState). numbered xs c) (sym alone.commands) ∙ h) runs
+alone_was : (w v : World) (c : ℕ) (y : CommandState) → v.commands ≡ w.commands → numbered v.commands c ≡ Some y → y.ended ≡ false → Was (numbered w.commands c) y
+alone_was w v c y alone h runs = as_it_was _ y (ap (λ (xs : List CommandState). numbered xs c) (sym alone) ∙ h) runs
+
+pub list_local : (config : Config) (w : World) (a : Alias) → (after config w (events.Local a)).commands ≡ w.commands
+list_local config w a = list_declared w (λ me. on_tablet w a (writes_local me (w.tablets a)).state) (tablet_of config.tablets a) (λ me. refl)
 
 pub given_itself : (name : List ℕ) (commands : List Command) → given_by name commands name ≡ commands
 given_itself name commands = ap (λ (b : Bool). cond b commands []) ((bytes_eq-Decides name name).1 refl)
@@ -142,18 +145,18 @@ was config w (events.Begin name command) c y apart h runs = begin_was w name com
 was config w (events.Take b) c y apart h runs = take_was w b (open_command w b) c y h runs
 was config w (events.Read b) c y apart h runs = term_was w b (reads w b) (λ t. with_act (read_act w.topo t)) (term_of w b) c y (λ t. refl) (λ t s e. (e, refl)) h runs
 was config w (events.Intend b a) c y apart h runs =
-    term_was w b (intends_in w b a) (λ t. with_intended (answer_intend w.topo t a)) (term_of w b) c y (λ t. refl) (λ t. intended_keeps (answer_intend w.topo t a)) h runs
+    term_was w b (intends_in w b a) (λ t. with_intended a (answer_intend w.topo t a)) (term_of w b) c y (λ t. refl) (λ t. intended_keeps a (answer_intend w.topo t a)) h runs
 was config w (events.Record b a) c y apart h runs =
     term_was w b (records_in w b a) (λ t. with_recorded a (answer_record w.topo t)) (term_of w b) c y (λ t. refl) (λ t. recorded_keeps a (answer_record w.topo t)) h runs
 was config w (events.Release b) c y apart h runs = term_was w b (releases_in w b) (λ t. as_released) (term_of w b) c y (λ t. refl) (λ t s e. (e, refl)) h runs
 was config w events.Lapse c y apart h runs = as_it_was _ y h runs
 was config w (events.Send b a call) c y apart h runs = command_was w b (with_act (acts.Sent (next_message w))) c y (λ s e. (e, refl)) h runs
-was config w (events.Deliver k) c y apart h runs = alone_was w _ c y (delivery_alone config w k (numbered w.post k)) h runs
-was config w (events.GiveUp b k) c y apart h runs = alone_was w _ c y (up_alone w k (why_given_up w b k)) h runs
-was config w (events.Offer a) c y apart h runs = alone_was w _ c y (offer_alone w (offer_to w a)) h runs
+was config w (events.Deliver k) c y apart h runs = alone_was w (after config w (events.Deliver k)) c y (list_delivery config w k (numbered w.post k)) h runs
+was config w (events.GiveUp b k) c y apart h runs = alone_was w (after config w (events.GiveUp b k)) c y (list_up w k (why_given_up w b k)) h runs
+was config w (events.Offer a) c y apart h runs = alone_was w (after config w (events.Offer a)) c y (list_offer w (offer_to w a)) h runs
 was config w (events.Write b a) c y apart h runs = write_was config w b a (open_command w b) c y h runs
 was config w (events.Tell b) c y apart h runs = told_was w b (tell_of w b >>= told_act) c y h runs
-was config w (events.Local a) c y apart h runs = alone_was w _ c y (local_alone config w a) h runs
+was config w (events.Local a) c y apart h runs = alone_was w (after config w (events.Local a)) c y (list_local config w a) h runs
 was config w (events.Crash a keep) c y apart h runs = as_it_was _ y h runs
 was config w (events.Restart a) c y apart h runs = as_it_was _ y h runs
 was config w (events.Cut x z) c y apart h runs = as_it_was _ y h runs

@@ -33,7 +33,7 @@ use Rattle.shard_top.specs.declared.player.Go.{Go}
 use Rattle.shard_top.specs.declared.player.Go.TheVariants as goes
 use Rattle.shard_top.specs.declared.player.Start.{Start}
 use Rattle.shard_top.specs.declared.player.Start.TheVariants as starts_as
-use Rattle.shard_top.specs.Played.{delivery, offer, arrival, pump, asked, gives, turned, finished, turns_on, finishes_on, gives_on, settles, go_on, turn_of, finish_of, unless_refused, starts}
+use Rattle.shard_top.specs.Played.{delivery, offer, arrival, pump, asked, gives, turned, finished, turns_on, finishes_on, command_of, played_at, gives_by, gives_on, settles, go_on, turn_of, finish_of, unless_refused, starts}
 use Rattle.shard_top.proofs.OwnLemmas.{was_open, runs_if_open, open_if_runs}
 
 -- ---- who has a command open
@@ -46,7 +46,7 @@ abbrev pub Holds : Task → ℕ → Type 0
 Holds tasks.Free c = ⊥
 Holds (tasks.Turns b left) c = ⊥
 Holds (tasks.Finishes b) c = ⊥
-Holds (tasks.Gives b command again) c = c ≡ b
+Holds (tasks.Gives b again) c = c ≡ b
 Holds tasks.Settles c = ⊥
 
 abbrev pub MainHeld : World → Task → Type 0
@@ -64,7 +64,7 @@ held_after config w e task other apart keeps held c s h is =
     keeps c (held c x.0 x.1 (x.2 ∙ is))
 
 main_begun : (config : Config) (w : World) (command : Command) (again : ℕ) → NoneOpen w main_name
-    → MainHeld (after config w (events.Begin main_name command)) (tasks.Gives (length w.commands + 1) command again)
+    → MainHeld (after config w (events.Begin main_name command)) (tasks.Gives (length w.commands + 1) again)
 main_begun config w command again none c s h is =
     let now = runs_if_open (numbered (after config w (events.Begin main_name command)).commands c) s h in
     of_cases now.1 (numbered-push_cases w.commands (begun_state w main_name command) s c now.0)
@@ -178,40 +178,50 @@ pub record Beginnable (config : Config) (command : Command) : Type 0 where
   pub in_time : is_in_time command ≡ true
   pub declared : names_declared config command ≡ true
 
+-- what is given so many times more, where the line before the player's place lets `main` give this command
+abbrev pub times_of : ℕ → Option Command → List Command
+times_of again None = []
+times_of again (Some command) = times again command
+
 -- what a task is to begin still
-abbrev pub pending : Task → List ℕ → List Command
-pending tasks.Free actor = []
-pending (tasks.Turns c left) actor = []
-pending (tasks.Finishes c) actor = []
-pending (tasks.Gives c command again) actor = given_by main_name (times again command) actor
-pending tasks.Settles actor = []
+abbrev pub pending : Option Command → Task → List ℕ → List Command
+pending given tasks.Free actor = []
+pending given (tasks.Turns c left) actor = []
+pending given (tasks.Finishes c) actor = []
+pending given (tasks.Gives c again) actor = given_by main_name (times_of again given) actor
+pending given tasks.Settles actor = []
 
-abbrev pub TaskFits : Config → Task → Type 0
-TaskFits config tasks.Free = ⊤
-TaskFits config (tasks.Turns c left) = ⊤
-TaskFits config (tasks.Finishes c) = ⊤
-TaskFits config (tasks.Gives c command again) = Beginnable config command
-TaskFits config tasks.Settles = ⊤
+abbrev pub FitsBy : Config → Option Command → Type 0
+FitsBy config None = ⊤
+FitsBy config (Some command) = Beginnable config command
 
-pub record GoesOn (config : Config) (w : World) (before : List ℕ → List Command) (names : List (List ℕ)) (e : Event) (task : Task) : Type 0 where
-  pub begins : (actor : List ℕ) → before actor ≡ begun_by e actor ++ pending task actor
+abbrev pub TaskFits : Config → Option Command → Task → Type 0
+TaskFits config given tasks.Free = ⊤
+TaskFits config given (tasks.Turns c left) = ⊤
+TaskFits config given (tasks.Finishes c) = ⊤
+TaskFits config given (tasks.Gives c again) = FitsBy config given
+TaskFits config given tasks.Settles = ⊤
+
+-- by this event it goes on to this task, where the line before the place is then of this command
+pub record GoesOn (config : Config) (w : World) (before : List ℕ → List Command) (names : List (List ℕ)) (given : Option Command) (e : Event) (task : Task) : Type 0 where
+  pub begins : (actor : List ℕ) → before actor ≡ begun_by e actor ++ pending given task actor
   pub held : MainHeld (after config w e) task
-  pub fits : TaskFits config task
+  pub fits : TaskFits config given task
   pub spares : AllNamed (λ n. begun_by e n ≡ []) names
 
 pub record IsIdle (w : World) (before : List ℕ → List Command) : Type 0 where
   pub none_left : (actor : List ℕ) → before actor ≡ []
   pub free : NoneOpen w main_name
 
-abbrev pub OwnGo : Config → World → (List ℕ → List Command) → List (List ℕ) → Go → Type 0
-OwnGo config w before names (goes.Makes e task) = GoesOn config w before names e task
-OwnGo config w before names (goes.Blocked name) = ⊤
-OwnGo config w before names goes.Finished = IsIdle w before
+abbrev pub OwnGo : Config → World → (List ℕ → List Command) → List (List ℕ) → Option Command → Go → Type 0
+OwnGo config w before names given (goes.Makes e task) = GoesOn config w before names given e task
+OwnGo config w before names given (goes.Blocked name) = ⊤
+OwnGo config w before names given goes.Finished = IsIdle w before
 
-quiet_goes : (config : Config) (w : World) (names : List (List ℕ)) (e : Event) (task other : Task) → Quiet e → MainHeld w task → ((c : ℕ) → Holds task c → Holds other c)
-    → TaskFits config other → GoesOn config w (pending other) names e other
-quiet_goes config w names e task other quiet held keeps fits = record {
-  begins = λ actor. ap (λ (xs : List Command). xs ++ pending other actor) (sym (quiet actor));
+quiet_goes : (config : Config) (w : World) (names : List (List ℕ)) (given : Option Command) (e : Event) (task other : Task) → Quiet e → MainHeld w task → ((c : ℕ) → Holds task c → Holds other c)
+    → TaskFits config given other → GoesOn config w (pending given other) names given e other
+quiet_goes config w names given e task other quiet held keeps fits = record {
+  begins = λ actor. ap (λ (xs : List Command). xs ++ pending given other actor) (sym (quiet actor));
   held = held_after config w e task other (quiet main_name) keeps held;
   fits = fits;
   spares = named_all (λ n. begun_by e n ≡ []) (λ n. quiet n) names;
@@ -220,76 +230,86 @@ quiet_goes config w names e task other quiet held keeps fits = record {
 idle : (w : World) → NoneOpen w main_name → IsIdle w (λ actor. [])
 idle w none = record { none_left = λ actor. refl; free = none }
 
-begins_met : (config : Config) (w : World) (before : List ℕ → List Command) (names : List (List ℕ)) (name : List ℕ) (command : Command) (task : Task) → FreeMayBegin config w → NoneOpen w name
-    → Beginnable config command → GoesOn config w before names (events.Begin name command) task → OwnGo config w before names (asked config w (events.Begin name command) task)
-begins_met config w before names name command task free none fits h =
+begins_met : (config : Config) (w : World) (before : List ℕ → List Command) (names : List (List ℕ)) (given : Option Command) (name : List ℕ) (command : Command) (task : Task)
+    → FreeMayBegin config w → NoneOpen w name → Beginnable config command → GoesOn config w before names given (events.Begin name command) task
+    → OwnGo config w before names given (asked config w (events.Begin name command) task)
+begins_met config w before names given name command task free none fits h =
     let e : Event = events.Begin name command in
     let met : meets config w e ≡ true = free name command fits.in_time fits.declared none in
-    subst (λ (b : Bool). OwnGo config w before names (cond b (goes.Makes e task) goes.Finished)) (sym met) h
+    subst (λ (b : Bool). OwnGo config w before names given (cond b (goes.Makes e task) goes.Finished)) (sym met) h
 
+-- where the line before the place then is the one of this command
 pub gives_own : (config : Config) (w : World) (names : List (List ℕ)) (command : Command) (count : ℕ) → FreeMayBegin config w → NoneOpen w main_name → Beginnable config command
-    → AllNamed (λ n. main_name ≢ n) names → OwnGo config w (given_by main_name (times count command)) names (gives config w command count)
+    → AllNamed (λ n. main_name ≢ n) names → OwnGo config w (given_by main_name (times count command)) names (Some command) (gives config w command count)
 gives_own config w names command zero free none fits apart = record { none_left = λ actor. given_none main_name actor; free = none }
 gives_own config w names command (suc n) free none fits apart =
     let e : Event = events.Begin main_name command in
     let before : List ℕ → List Command = given_by main_name (times (suc n) command) in
     let positive : (suc n == 0) ≡ false = grind (arith, nat_tests) in
     let less : suc n - 1 ≡ n = omega arith in
-    subst (λ (b : Bool). OwnGo config w before names (cond b goes.Finished (asked config w e (tasks.Gives (length w.commands + 1) command (suc n - 1))))) (sym positive)
-    (subst (λ (k : ℕ). OwnGo config w before names (asked config w e (tasks.Gives (length w.commands + 1) command k))) (sym less)
-    (begins_met config w before names main_name command (tasks.Gives (length w.commands + 1) command n) free none fits (record {
+    subst (λ (b : Bool). OwnGo config w before names (Some command) (cond b goes.Finished (asked config w e (tasks.Gives (length w.commands + 1) (suc n - 1))))) (sym positive)
+    (subst (λ (k : ℕ). OwnGo config w before names (Some command) (asked config w e (tasks.Gives (length w.commands + 1) k))) (sym less)
+    (begins_met config w before names (Some command) main_name command (tasks.Gives (length w.commands + 1) n) free none fits (record {
       begins = λ actor. given_more main_name command (times n command) actor;
       held = main_begun config w command n none;
       fits = fits;
       spares = named_map (λ n. main_name ≢ n) (λ n. begun_by (events.Begin main_name command) n ≡ []) (λ n differ. given_other main_name n (command ∷ []) differ) names apart;
     })))
 
-turned_own : (config : Config) (w : World) (names : List (List ℕ)) (c left : ℕ) (o : Option Event) → NoneOpen w main_name → pump config w c ≡ o
-    → OwnGo config w (λ actor. []) names (turned c left o)
-turned_own config w names c left None none is = idle w none
-turned_own config w names c left (Some e) none is = of_test (left == 0)
+turned_own : (config : Config) (w : World) (names : List (List ℕ)) (given : Option Command) (c left : ℕ) (o : Option Event) → NoneOpen w main_name → pump config w c ≡ o
+    → OwnGo config w (λ actor. []) names given (turned c left o)
+turned_own config w names given c left None none is = idle w none
+turned_own config w names given c left (Some e) none is = of_test (left == 0)
   where
-    of_test : (b : Bool) → OwnGo config w (λ actor. []) names (cond b goes.Finished (goes.Makes e (tasks.Turns c (left - 1))))
+    of_test : (b : Bool) → OwnGo config w (λ actor. []) names given (cond b goes.Finished (goes.Makes e (tasks.Turns c (left - 1))))
     of_test true = idle w none
-    of_test false = quiet_goes config w names e tasks.Free (tasks.Turns c (left - 1)) (pump_quiet config w c e is) none (λ d h. h) tt
+    of_test false = quiet_goes config w names given e tasks.Free (tasks.Turns c (left - 1)) (pump_quiet config w c e is) none (λ d h. h) tt
 
-turns_own : (config : Config) (w : World) (names : List (List ℕ)) (c left : ℕ) (o : Option CommandState) → NoneOpen w main_name
-    → OwnGo config w (λ actor. []) names (turns_on config w c left o)
-turns_own config w names c left None none = idle w none
-turns_own config w names c left (Some s) none = turned_own config w names c left (pump config w c) none refl
+turns_own : (config : Config) (w : World) (names : List (List ℕ)) (given : Option Command) (c left : ℕ) (o : Option CommandState) → NoneOpen w main_name
+    → OwnGo config w (λ actor. []) names given (turns_on config w c left o)
+turns_own config w names given c left None none = idle w none
+turns_own config w names given c left (Some s) none = turned_own config w names given c left (pump config w c) none refl
 
-finished_own : (config : Config) (w : World) (names : List (List ℕ)) (c : ℕ) (s : CommandState) (task : Task) (o : Option Event) → MainHeld w task → TaskFits config task → pump config w c ≡ o
-    → OwnGo config w (pending task) names (finished s task o)
-finished_own config w names c s task None held fits is = tt
-finished_own config w names c s task (Some e) held fits is = quiet_goes config w names e task task (pump_quiet config w c e is) held (λ d h. h) fits
+finished_own : (config : Config) (w : World) (names : List (List ℕ)) (given : Option Command) (c : ℕ) (s : CommandState) (task : Task) (o : Option Event) → MainHeld w task
+    → TaskFits config given task → pump config w c ≡ o → OwnGo config w (pending given task) names given (finished s task o)
+finished_own config w names given c s task None held fits is = tt
+finished_own config w names given c s task (Some e) held fits is = quiet_goes config w names given e task task (pump_quiet config w c e is) held (λ d h. h) fits
 
-finishes_own : (config : Config) (w : World) (names : List (List ℕ)) (c : ℕ) (o : Option CommandState) → NoneOpen w main_name
-    → OwnGo config w (λ actor. []) names (finishes_on config w c o)
-finishes_own config w names c None none = idle w none
-finishes_own config w names c (Some s) none = finished_own config w names c s (tasks.Finishes c) (pump config w c) none tt refl
+finishes_own : (config : Config) (w : World) (names : List (List ℕ)) (given : Option Command) (c : ℕ) (o : Option CommandState) → NoneOpen w main_name
+    → OwnGo config w (λ actor. []) names given (finishes_on config w c o)
+finishes_own config w names given c None none = idle w none
+finishes_own config w names given c (Some s) none = finished_own config w names given c s (tasks.Finishes c) (pump config w c) none tt refl
 
-closed_frees : (w : World) (c : ℕ) (command : Command) (again : ℕ) → open_command w c ≡ None → MainHeld w (tasks.Gives c command again) → NoneOpen w main_name
-closed_frees w c command again closed held d s here is =
+closed_frees : (w : World) (c : ℕ) (again : ℕ) → open_command w c ≡ None → MainHeld w (tasks.Gives c again) → NoneOpen w main_name
+closed_frees w c again closed held d s here is =
     let same : open_command w c ≡ Some s = subst (λ (n : ℕ). open_command w n ≡ Some s) (held d s here is) here in
     (let never : ◌≡◌ {A = Option CommandState} None (Some s) = sym closed ∙ same in cc)
 
-gives_on_own : (config : Config) (w : World) (names : List (List ℕ)) (c : ℕ) (command : Command) (again : ℕ) (o : Option CommandState) → open_command w c ≡ o → FreeMayBegin config w
-    → MainHeld w (tasks.Gives c command again) → Beginnable config command → AllNamed (λ n. main_name ≢ n) names
-    → OwnGo config w (given_by main_name (times again command)) names (gives_on config w c command again o)
-gives_on_own config w names c command again None is free held fits apart = gives_own config w names command again free (closed_frees w c command again is held) fits apart
-gives_on_own config w names c command again (Some s) is free held fits apart = finished_own config w names c s (tasks.Gives c command again) (pump config w c) held fits refl
+gives_by_own : (config : Config) (w : World) (names : List (List ℕ)) (given : Option Command) (again : ℕ) → FreeMayBegin config w → NoneOpen w main_name → FitsBy config given
+    → AllNamed (λ n. main_name ≢ n) names → OwnGo config w (given_by main_name (times_of again given)) names given (gives_by config w given again)
+gives_by_own config w names None again free none fits apart = record { none_left = λ actor. given_none main_name actor; free = none }
+gives_by_own config w names (Some command) again free none fits apart = gives_own config w names command again free none fits apart
 
-settles_own : (config : Config) (w : World) (names : List (List ℕ)) (o : Option Event) → arrival config w ≡ o → NoneOpen w main_name → OwnGo config w (λ actor. []) names (settles o)
-settles_own config w names None is none = idle w none
-settles_own config w names (Some e) is none = quiet_goes config w names e tasks.Free tasks.Settles (arrival_quiet config w e is) none (λ d h. h) tt
+gives_on_own : (config : Config) (w : World) (names : List (List ℕ)) (c : ℕ) (given : Option Command) (again : ℕ) (o : Option CommandState) → open_command w c ≡ o → FreeMayBegin config w
+    → MainHeld w (tasks.Gives c again) → FitsBy config given → AllNamed (λ n. main_name ≢ n) names
+    → OwnGo config w (given_by main_name (times_of again given)) names given (gives_on config w c given again o)
+gives_on_own config w names c given again None is free held fits apart = gives_by_own config w names given again free (closed_frees w c again is held) fits apart
+gives_on_own config w names c given again (Some s) is free held fits apart = finished_own config w names given c s (tasks.Gives c again) (pump config w c) held fits refl
 
-pub go_own : (config : Config) (w : World) (names : List (List ℕ)) (task : Task) → FreeMayBegin config w → MainHeld w task → TaskFits config task → AllNamed (λ n. main_name ≢ n) names
-    → OwnGo config w (pending task) names (go_on config w task)
-go_own config w names tasks.Free free held fits apart = idle w held
-go_own config w names (tasks.Turns c left) free held fits apart = turns_own config w names c left (open_command w c) held
-go_own config w names (tasks.Finishes c) free held fits apart = finishes_own config w names c (open_command w c) held
-go_own config w names (tasks.Gives c command again) free held fits apart = gives_on_own config w names c command again (open_command w c) refl free held fits apart
-go_own config w names tasks.Settles free held fits apart = settles_own config w names (arrival config w) refl held
+settles_own : (config : Config) (w : World) (names : List (List ℕ)) (given : Option Command) (o : Option Event) → arrival config w ≡ o → NoneOpen w main_name
+    → OwnGo config w (λ actor. []) names given (settles o)
+settles_own config w names given None is none = idle w none
+settles_own config w names given (Some e) is none = quiet_goes config w names given e tasks.Free tasks.Settles (arrival_quiet config w e is) none (λ d h. h) tt
+
+pub go_own : (config : Config) (w : World) (names : List (List ℕ)) (lines : List Action) (line : ℕ) (task : Task) → FreeMayBegin config w → MainHeld w task
+    → TaskFits config (played_at lines line) task → AllNamed (λ n. main_name ≢ n) names
+    → OwnGo config w (pending (played_at lines line) task) names (played_at lines line) (go_on config w lines line task)
+go_own config w names lines line tasks.Free free held fits apart = idle w held
+go_own config w names lines line (tasks.Turns c left) free held fits apart = turns_own config w names (played_at lines line) c left (open_command w c) held
+go_own config w names lines line (tasks.Finishes c) free held fits apart = finishes_own config w names (played_at lines line) c (open_command w c) held
+go_own config w names lines line (tasks.Gives c again) free held fits apart =
+    gives_on_own config w names c (played_at lines line) again (open_command w c) refl free held fits apart
+go_own config w names lines line tasks.Settles free held fits apart = settles_own config w names (played_at lines line) (arrival config w) refl held
 
 -- ---- lines
 
@@ -310,37 +330,37 @@ LineFits config names (actions.Repeat message) = ⊤
 LineFits config names actions.Lapse = ⊤
 LineFits config names (actions.Tick ms) = ⊤
 
-abbrev pub OwnStart : Config → World → (List ℕ → List Command) → List (List ℕ) → Start → Type 0
-OwnStart config w before names (starts_as.Goes g) = OwnGo config w before names g
-OwnStart config w before names (starts_as.Notes refused) = IsIdle w before
+abbrev pub OwnStart : Config → World → (List ℕ → List Command) → List (List ℕ) → Option Command → Start → Type 0
+OwnStart config w before names given (starts_as.Goes g) = OwnGo config w before names given g
+OwnStart config w before names given (starts_as.Notes refused) = IsIdle w before
 
-quiet_asked : (config : Config) (w : World) (names : List (List ℕ)) (e : Event) → Quiet e → NoneOpen w main_name → OwnGo config w (λ actor. []) names (asked config w e tasks.Free)
+quiet_asked : (config : Config) (w : World) (names : List (List ℕ)) (e : Event) → Quiet e → NoneOpen w main_name → OwnGo config w (λ actor. []) names None (asked config w e tasks.Free)
 quiet_asked config w names e quiet none = of_test (meets config w e)
   where
-    of_test : (b : Bool) → OwnGo config w (λ actor. []) names (cond b (goes.Makes e tasks.Free) goes.Finished)
-    of_test true = quiet_goes config w names e tasks.Free tasks.Free quiet none (λ d h. h) tt
+    of_test : (b : Bool) → OwnGo config w (λ actor. []) names None (cond b (goes.Makes e tasks.Free) goes.Finished)
+    of_test true = quiet_goes config w names None e tasks.Free tasks.Free quiet none (λ d h. h) tt
     of_test false = idle w none
 
 quiet_unless : (config : Config) (w : World) (names : List (List ℕ)) (e : Event) (refused : RefusedAction) → Quiet e → NoneOpen w main_name
-    → OwnStart config w (λ actor. []) names (unless_refused config w e refused)
+    → OwnStart config w (λ actor. []) names None (unless_refused config w e refused)
 quiet_unless config w names e refused quiet none = of_test (meets config w e)
   where
-    of_test : (b : Bool) → OwnStart config w (λ actor. []) names (cond b (starts_as.Goes (goes.Makes e tasks.Free)) (starts_as.Notes refused))
-    of_test true = quiet_goes config w names e tasks.Free tasks.Free quiet none (λ d h. h) tt
+    of_test : (b : Bool) → OwnStart config w (λ actor. []) names None (cond b (starts_as.Goes (goes.Makes e tasks.Free)) (starts_as.Notes refused))
+    of_test true = quiet_goes config w names None e tasks.Free tasks.Free quiet none (λ d h. h) tt
     of_test false = idle w none
 
-turn_own : (config : Config) (w : World) (names : List (List ℕ)) (pumps : ℕ) (o : Option ℕ) → NoneOpen w main_name → OwnGo config w (λ actor. []) names (turn_of config w pumps o)
+turn_own : (config : Config) (w : World) (names : List (List ℕ)) (pumps : ℕ) (o : Option ℕ) → NoneOpen w main_name → OwnGo config w (λ actor. []) names None (turn_of config w pumps o)
 turn_own config w names pumps None none = idle w none
-turn_own config w names pumps (Some c) none = turns_own config w names c pumps (open_command w c) none
+turn_own config w names pumps (Some c) none = turns_own config w names None c pumps (open_command w c) none
 
-finish_own : (config : Config) (w : World) (names : List (List ℕ)) (o : Option ℕ) → NoneOpen w main_name → OwnGo config w (λ actor. []) names (finish_of config w o)
+finish_own : (config : Config) (w : World) (names : List (List ℕ)) (o : Option ℕ) → NoneOpen w main_name → OwnGo config w (λ actor. []) names None (finish_of config w o)
 finish_own config w names None none = idle w none
-finish_own config w names (Some c) none = finishes_own config w names c (open_command w c) none
+finish_own config w names (Some c) none = finishes_own config w names None c (open_command w c) none
 
 started_own : (config : Config) (w : World) (names : List (List ℕ)) (name : List ℕ) (command : Command) → FreeMayBegin config w → NoneOpen w main_name → NoneOpen w name
-    → LineFits config names (actions.Start name command) → OwnGo config w (given_by name (command ∷ [])) names (asked config w (events.Begin name command) tasks.Free)
+    → LineFits config names (actions.Start name command) → OwnGo config w (given_by name (command ∷ [])) names None (asked config w (events.Begin name command) tasks.Free)
 started_own config w names name command free none unbegun fits =
-    begins_met config w (given_by name (command ∷ [])) names name command tasks.Free free unbegun fits.0 (record {
+    begins_met config w (given_by name (command ∷ [])) names None name command tasks.Free free unbegun fits.0 (record {
       begins = λ actor. sym (append-nil (given_by name (command ∷ []) actor));
       held = none_after config w (events.Begin name command) main_name (given_other name main_name (command ∷ []) fits.1.0) none;
       fits = tt;
@@ -348,12 +368,12 @@ started_own config w names name command free none unbegun fits =
     })
 
 pub starts_own : (config : Config) (w : World) (line : Action) (lines : List Action) → FreeMayBegin config w → NoneOpen w main_name → AllNamed (λ n. NoneOpen w n) (started (line ∷ lines))
-    → LineFits config (started lines) line → AllNamed (λ n. main_name ≢ n) (started lines) → OwnStart config w (asks_for line) (started lines) (starts config w line)
+    → LineFits config (started lines) line → AllNamed (λ n. main_name ≢ n) (started lines) → OwnStart config w (asks_for line) (started lines) (command_of line) (starts config w line)
 starts_own config w (actions.Play command n) lines free none unbegun fits apart = gives_own config w (started lines) command n free none fits apart
 starts_own config w (actions.Start name command) lines free none unbegun fits apart = started_own config w (started lines) name command free none unbegun.0 fits
 starts_own config w (actions.Turn name pumps) lines free none unbegun fits apart = turn_own config w (started lines) pumps (open_of w.actors name) none
 starts_own config w (actions.Finish name) lines free none unbegun fits apart = finish_own config w (started lines) (open_of w.actors name) none
-starts_own config w actions.Settle lines free none unbegun fits apart = settles_own config w (started lines) (arrival config w) refl none
+starts_own config w actions.Settle lines free none unbegun fits apart = settles_own config w (started lines) None (arrival config w) refl none
 starts_own config w (actions.Local a) lines free none unbegun fits apart = quiet_unless config w (started lines) (events.Local a) (refusals.IsDown a) (λ actor. refl) none
 starts_own config w (actions.Crash a keep) lines free none unbegun fits apart = quiet_asked config w (started lines) (events.Crash a keep) (λ actor. refl) none
 starts_own config w (actions.Restart a) lines free none unbegun fits apart = quiet_unless config w (started lines) (events.Restart a) (refusals.IsUp a) (λ actor. refl) none

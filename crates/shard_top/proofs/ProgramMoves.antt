@@ -2,7 +2,8 @@
 use Rattle.std.proofs.Common.{◌≡◌, ◌≢◌, ℕ, zero, suc, ◌+◌, List, [], ◌∷◌, ◌++◌, Option, Some, None, drop, refl, ap, sym, subst, ◌∙◌, arith}
 use Rattle.std.specs.Bool.{⊤}
 use Rattle.std.proofs.lemmas.List.{append_assoc}
-use Rattle.shard_calls.specs.World.{Config, World, opening, main_name}
+use Rattle.shard_base.specs.Options.{◌>>=◌}
+use Rattle.shard_calls.specs.World.{Config, World, main_name, numbered}
 use Rattle.shard_calls.specs.Table.{after, world_after, IsRun, IsRunFrom, IsStep}
 use Rattle.shard_calls.specs.declared.command.Command.{Command}
 use Rattle.shard_calls.specs.declared.event.Event.{Event}
@@ -24,7 +25,7 @@ use Rattle.shard_top.specs.declared.player.Start.{Start}
 use Rattle.shard_top.specs.declared.player.Start.TheVariants as starts_as
 use Rattle.shard_top.specs.declared.player.Move.{Move}
 use Rattle.shard_top.specs.declared.player.Move.TheVariants as moves
-use Rattle.shard_top.specs.Played.{Want, wanted, wanting, move, Made, Stepped, Noted, steps_of, IsMade, Plays, world_by, player_by, player_after, go_on, starts, first_of, start_at, move_on, plain_move}
+use Rattle.shard_top.specs.Played.{Want, wanted, wanting, move, Made, Stepped, Noted, steps_of, IsMade, Plays, world_by, player_by, player_after, command_of, played_at, go_on, starts, first_of, start_at, move_on, plain_move}
 use Rattle.shard_top.proofs.LongerLemmas.{made_on, world_more}
 use Rattle.shard_top.proofs.ProgramLemmas.{NoneOpen, MainHeld, none_after, held_after, AllNamed, named_map, named_both, maker_quiet, pending, TaskFits, GoesOn, IsIdle, OwnGo, go_own, LineFits, OwnStart, starts_own}
 
@@ -36,9 +37,9 @@ AllFit config (x ∷ xs) = LineFits config (started xs) x × AllFit config xs
 pub record Stands (config : Config) (w : World) (all : List Action) (task : Task) (line : ℕ) (before : List ℕ → List Command) : Type 0 where
   pub rest : List Action
   pub behind : drop line all ≡ rest
-  pub ahead : (actor : List ℕ) → before actor ≡ pending task actor ++ asked_of rest actor
+  pub ahead : (actor : List ℕ) → before actor ≡ pending (played_at all line) task actor ++ asked_of rest actor
   pub held : MainHeld w task
-  pub fits : TaskFits config task
+  pub fits : TaskFits config (played_at all line) task
   pub lines_fit : AllFit config rest
   pub unbegun : AllNamed (λ n. NoneOpen w n) (started rest)
   pub apart : AllNamed (λ n. main_name ≢ n) (started rest)
@@ -59,6 +60,18 @@ drop_suc (y ∷ ys) (suc k) x xs h = drop_suc ys k x xs h
 drop_next : (all : List Action) (k : ℕ) (x : Action) (xs : List Action) → drop k all ≡ x ∷ xs → drop (k + 1) all ≡ xs
 drop_next all k x xs h = let one : suc k ≡ k + 1 = omega arith in subst (λ (n : ℕ). drop n all ≡ xs) one (drop_suc all k x xs h)
 
+-- the line before the next place is the one at this place
+numbered_drop : (all : List Action) (k : ℕ) (x : Action) (xs : List Action) → drop k all ≡ x ∷ xs → numbered all (suc k) ≡ Some x
+numbered_drop [] zero x xs h = absurd (let none : ◌≡◌ {A = List Action} [] (x ∷ xs) = h in cc)
+numbered_drop [] (suc k) x xs h = absurd (let none : ◌≡◌ {A = List Action} [] (x ∷ xs) = h in cc)
+numbered_drop (y ∷ ys) zero x xs h = cc
+numbered_drop (y ∷ ys) (suc k) x xs h = numbered_drop ys k x xs h
+
+played_next : (all : List Action) (k : ℕ) (x : Action) (xs : List Action) → drop k all ≡ x ∷ xs → played_at all (k + 1) ≡ command_of x
+played_next all k x xs h =
+    let one : suc k ≡ k + 1 = omega arith in
+    subst (λ (n : ℕ). played_at all n ≡ command_of x) one (ap (λ (o : Option Action). o >>= command_of) (numbered_drop all k x xs h))
+
 pub named_tail : (P : List ℕ → Type 0) (xs ys : List (List ℕ)) → AllNamed P (xs ++ ys) → AllNamed P ys
 named_tail P [] ys h = h
 named_tail P (x ∷ xs) ys h = named_tail P xs ys h.1
@@ -67,14 +80,14 @@ named_tail P (x ∷ xs) ys h = named_tail P xs ys h.1
 
 line_stands : (config : Config) (w : World) (all : List Action) (line : ℕ) (rest : List Action) (names_before : List ℕ → List Command) (before : List ℕ → List Command) (e : Event) (task : Task)
     → drop line all ≡ rest → ((actor : List ℕ) → before actor ≡ names_before actor ++ asked_of rest actor) → AllFit config rest → AllNamed (λ n. NoneOpen w n) (started rest)
-    → AllNamed (λ n. main_name ≢ n) (started rest) → GoesOn config w names_before (started rest) e task
+    → AllNamed (λ n. main_name ≢ n) (started rest) → GoesOn config w names_before (started rest) (played_at all line) e task
     → (later : List ℕ → List Command) × ((actor : List ℕ) → before actor ≡ begun_by e actor ++ later actor) × Stands config (after config w e) all task line later
 line_stands config w all line rest names_before before e task behind is lines_fit unbegun apart h = (
-  λ actor. pending task actor ++ asked_of rest actor,
+  λ actor. pending (played_at all line) task actor ++ asked_of rest actor,
   λ actor.
       is actor
       ∙ ap (λ (xs : List Command). xs ++ asked_of rest actor) (h.begins actor)
-      ∙ append_assoc (begun_by e actor) (pending task actor) (asked_of rest actor),
+      ∙ append_assoc (begun_by e actor) (pending (played_at all line) task actor) (asked_of rest actor),
   record {
     rest = rest;
     behind = behind;
@@ -89,7 +102,7 @@ line_stands config w all line rest names_before before e task behind is lines_fi
 
 first_own : (config : Config) (w : World) (all : List Action) (noted at : ℕ) (line : Action) (lines : List Action) (before : List ℕ → List Command) (start : Start) (rest : Move)
     → drop (at + 1) all ≡ lines → ((actor : List ℕ) → before actor ≡ asks_for line actor ++ asked_of lines actor) → AllFit config lines → AllNamed (λ n. NoneOpen w n) (started lines)
-    → AllNamed (λ n. main_name ≢ n) (started lines) → OwnStart config w (asks_for line) (started lines) start
+    → AllNamed (λ n. main_name ≢ n) (started lines) → OwnStart config w (asks_for line) (started lines) (played_at all (at + 1)) start
     → (((actor : List ℕ) → before actor ≡ asked_of lines actor) → OwnMove config w all before rest) → OwnMove config w all before (first_of noted at start rest)
 first_own config w all noted at line lines before (starts_as.Goes (goes.Makes e task)) rest behind is fit unbegun apart h later =
     line_stands config w all (at + 1) lines (asks_for line) before e task behind is fit unbegun apart h
@@ -116,15 +129,16 @@ start_own config w all noted at (line ∷ lines) before free none behind is fit 
     let later = named_tail (λ n. NoneOpen w n) (started_by line) (started lines) unbegun in
     let others = named_tail (λ n. main_name ≢ n) (started_by line) (started lines) apart in
     first_own config w all noted at line lines before (starts config w line) (start_at config w noted (at + 1) lines) next is fit.1 later others
-    (starts_own config w line lines free none unbegun fit.0 others)
+    (subst (λ (o : Option Command). OwnStart config w (asks_for line) (started lines) o (starts config w line)) (sym (played_next all at line lines behind))
+    (starts_own config w line lines free none unbegun fit.0 others))
     (λ same. start_own config w all noted (at + 1) lines before free none next same fit.1 later others)
 
 -- ---- a move
 
 move_on_own : (config : Config) (w : World) (all : List Action) (p : Player) (g : Go) (before : List ℕ → List Command) → FreeMayBegin config w → (h : Stands config w all p.task p.line before)
-    → OwnGo config w (pending p.task) (started h.rest) g → OwnMove config w all before (move_on config w all p g)
+    → OwnGo config w (pending (played_at all p.line) p.task) (started h.rest) (played_at all p.line) g → OwnMove config w all before (move_on config w all p g)
 move_on_own config w all p (goes.Makes e task) before free h go =
-    line_stands config w all p.line h.rest (pending p.task) before e task h.behind h.ahead h.lines_fit h.unbegun h.apart go
+    line_stands config w all p.line h.rest (pending (played_at all p.line) p.task) before e task h.behind h.ahead h.lines_fit h.unbegun h.apart go
 move_on_own config w all p (goes.Blocked name) before free h go = tt
 move_on_own config w all p goes.Finished before free h go =
     subst (λ (ls : List Action). OwnMove config w all before (start_at config w p.noted p.line ls)) (sym h.behind)
@@ -133,7 +147,8 @@ move_on_own config w all p goes.Finished before free h go =
 
 wanting_own : (config : Config) (w : World) (all : List Action) (p : Player) (o : Option Want) (before : List ℕ → List Command) → FreeMayBegin config w
     → Stands config w all p.task p.line before → OwnMove config w all before (wanting config w all p o)
-wanting_own config w all p None before free h = move_on_own config w all p (go_on config w p.task) before free h (go_own config w (started h.rest) p.task free h.held h.fits h.apart)
+wanting_own config w all p None before free h =
+    move_on_own config w all p (go_on config w all p.line p.task) before free h (go_own config w (started h.rest) all p.line p.task free h.held h.fits h.apart)
 wanting_own config w all p (Some m) before free h =
     let e : Event = leaves w m.command in
     let quiet = maker_quiet e m.command (leaving_is_own w m.command) in (

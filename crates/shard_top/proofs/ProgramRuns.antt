@@ -95,10 +95,13 @@ begun_from config wants all done w p (Stepped s ∷ made) before is run rest h s
 
 command_declared : (config : Config) (command : Command) → All (IsDeclared config.tablets) (aliases_in command) → names_declared config command ≡ true
 command_declared config (commands.Planned shard given avoid expected timeout allow_cross_cell) h = refl
+command_declared config (commands.Emergency shard given ignored expected timeout prevent_cross_cell) h = refl
 command_declared config (commands.External a) h = refl
 command_declared config (commands.Write None) h = refl
 command_declared config (commands.Write (Some a)) h = found config.tablets a (All-head (IsDeclared config.tablets) a [] h)
 command_declared config (commands.Show a) h = found config.tablets a (All-head (IsDeclared config.tablets) a [] h)
+command_declared config (commands.GetShard shard) h = refl
+command_declared config (commands.GetTablets shard) h = refl
 
 named_of : (P : List ℕ → Type 0) (ns : List (List ℕ)) → All P ns → AllNamed P ns
 named_of P [] h = tt

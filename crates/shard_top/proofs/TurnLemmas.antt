@@ -15,14 +15,16 @@ use Rattle.planned.specs.Course.{leaves}
 use Rattle.planned.specs.Follows.{maker_of}
 use Rattle.planned.specs.Laws.{NextIsMet}
 use Rattle.shard_top.specs.declared.player.Player.{Player}
+use Rattle.shard_top.specs.declared.player.Go.TheVariants as goes
 use Rattle.shard_top.specs.declared.player.Start.{Start}
+use Rattle.shard_top.specs.declared.player.Start.TheVariants as starts_as
 use Rattle.shard_top.specs.declared.player.Move.{Move}
 use Rattle.shard_top.specs.declared.player.Move.TheVariants as moves
 use Rattle.shard_top.specs.declared.player.Stop.{Stop}
 use Rattle.shard_top.specs.declared.player.Stop.TheVariants as stops
 use Rattle.shard_top.specs.declared.playing.Turn.{Turn}
 use Rattle.shard_top.specs.declared.playing.Turn.TheVariants as turns
-use Rattle.shard_top.specs.Played.{plain_move, starts, first_of, start_at, stop_by}
+use Rattle.shard_top.specs.Played.{plain_move, starts, first_of, start_at, stop_by, IsStartOfNone, IsOfNone, Lacks}
 use Rattle.shard_top.specs.Playing.{with_note, still_open, Playing, IsCut, IsTurn}
 use Rattle.shard_top.proofs.EndedLemmas.{few_begun}
 use Rattle.shard_top.proofs.LeavingLemmas.{by_leaving, made_fair, leave_fair, still_is, fair_open, leaves_kept}
@@ -30,19 +32,13 @@ use Rattle.shard_top.proofs.PlayingLemmas.{kept_is, length_with, noted_with, pla
 
 -- ---- lines by their places
 
-pub starts_here : (config : Config) (w : World) (noted : ℕ) (lines : List Action) (i : ℕ) (x : Action) → i < length lines → x ≡ get_or lines i x
+starts_here : (config : Config) (w : World) (noted : ℕ) (lines : List Action) (i : ℕ) (x : Action) → i < length lines → x ≡ get_or lines i x
     → start_at config w noted i (drop i lines) ≡ first_of noted i (starts config w x) (start_at config w noted (i + 1) (drop (i + 1) lines))
 starts_here config w noted lines i x within is =
     let next : suc i ≡ i + 1 = omega arith in
     ap (λ (ls : List Action). start_at config w noted i ls) (drop-cons lines i x within)
     ∙ ap (λ (y : Action). first_of noted i (starts config w y) (start_at config w noted (i + 1) (drop (suc i) lines))) (sym is)
     ∙ ap (λ (k : ℕ). first_of noted i (starts config w x) (start_at config w noted (i + 1) (drop k lines))) next
-
--- what the line at this place does decides
-pub starts_by : (config : Config) (w : World) (noted : ℕ) (lines : List Action) (i : ℕ) (x : Action) (g : Start) (m : Move) → i < length lines → x ≡ get_or lines i x → g ≡ starts config w x
-    → m ≡ start_at config w noted i (drop i lines) → m ≡ first_of noted i g (start_at config w noted (i + 1) (drop (i + 1) lines))
-starts_by config w noted lines i x g m within is does so_far =
-    so_far ∙ starts_here config w noted lines i x within is ∙ ap (λ (v : Start). first_of noted i v (start_at config w noted (i + 1) (drop (i + 1) lines))) (sym does)
 
 pub few_commands : (k : Kept) → length k.steps ≤ 1000000 → length (world_of k).commands < 2 ^ 64 - 1
 few_commands k few = omega (arith, few, few_begun k.config k.steps)
@@ -182,6 +178,45 @@ pub note_cut : (r : Result Turn OutOfMemory) (lines : List Action) (old new : Ke
 note_cut (Ok t) lines old new p leaving x q h closed is same = tt
 note_cut (Err e) lines old new p leaving x q h closed is same =
     subst (λ (k : Kept). IsCut lines k) (sym same) (playing_is_cut lines old p leaving (moves.Notes x q) h (plain_is lines old p leaving closed ∙ is) tt)
+
+-- ---- memory ran out while it was worked out what comes next
+
+pub lacks_turn : (r : Result Turn OutOfMemory) (lines : List Action) (old new : Kept) (p : Player) (leaving : Option ℕ) → Playing lines old p leaving → still_open (world_of old) leaving ≡ None
+    → IfOk r (λ t. (ls : List Action) (l : Option ℕ) → still_open (world_of old) l ≡ None → Playing ls old p l → IsTurn ls old new t) → IfOk r (λ t. IsTurn lines old new t)
+lacks_turn (Ok t) lines old new p leaving h closed f = f lines leaving closed h
+lacks_turn (Err e) lines old new p leaving h closed f = tt
+
+pub lacks_cut : (r : Result Turn OutOfMemory) (lines : List Action) (old new : Kept) (p : Player) (leaving : Option ℕ) (o : Option ℕ) → Playing lines old p leaving
+    → still_open (world_of old) leaving ≡ None → Lacks (world_of old) (IsOfNone (plain_move old.config (world_of old) lines p)) o → OnErr r (new ≡ old) → OnErr r (o ≡ None)
+    → OnErr r (IsCut lines new)
+lacks_cut (Ok t) lines old new p leaving o h closed lacks same none = tt
+lacks_cut (Err x) lines old new p leaving o h closed lacks same none =
+    let m : Move = plain_move old.config (world_of old) lines p in
+    subst (λ (k : Kept). IsCut lines k) (sym same)
+    (playing_is_cut lines old p leaving m h (plain_is lines old p leaving closed) (subst (λ (c : Option ℕ). Lacks (world_of old) (IsOfNone m) c) none lacks))
+
+pub lacks_open : (w : World) (P : Type 0) (o : Option ℕ) (c : ℕ) → Lacks w P o → o ≡ Some c → is_some (open_command w c) ≡ true
+lacks_open w P None c h is = absurd (let none : ◌≡◌ {A = Option ℕ} None (Some c) = is in cc)
+lacks_open w P (Some d) c h is = subst (λ (n : ℕ). is_some (open_command w n) ≡ true) (let same : d ≡ c = (let some : ◌≡◌ {A = Option ℕ} (Some d) (Some c) = is in cc) in same) h
+
+lacks_with : (w : World) (P Q : Type 0) (o : Option ℕ) → (P → Q) → Lacks w P o → Lacks w Q o
+lacks_with w P Q None f h = f h
+lacks_with w P Q (Some c) f h = h
+
+none_first : (noted at : ℕ) (start : Start) (rest : Move) → IsStartOfNone start → IsOfNone (first_of noted at start rest)
+none_first noted at (starts_as.Goes (goes.Makes e task)) rest h = h
+none_first noted at (starts_as.Goes (goes.Blocked name)) rest h = absurd h
+none_first noted at (starts_as.Goes goes.Finished) rest h = absurd h
+none_first noted at (starts_as.Notes refused) rest h = tt
+
+-- memory ran out for what the line at this place does
+pub starts_lack : (config : Config) (w : World) (noted : ℕ) (lines : List Action) (i : ℕ) (x : Action) (m : Move) (o : Option ℕ) → i < length lines → x ≡ get_or lines i x
+    → m ≡ start_at config w noted i (drop i lines) → Lacks w (IsStartOfNone (starts config w x)) o → Lacks w (IsOfNone m) o
+starts_lack config w noted lines i x m o within is so_far h =
+    let start : Start = starts config w x in
+    let rest : Move = start_at config w noted (i + 1) (drop (i + 1) lines) in
+    subst (λ (v : Move). Lacks w (IsOfNone v) o) (sym (so_far ∙ starts_here config w noted lines i x within is))
+    (lacks_with w (IsStartOfNone start) (IsOfNone (first_of noted i start rest)) o (none_first noted i start rest) h)
 
 -- where the line was noted, or was one too many, a turn is that of the player
 pub noted_else : (r : Result Turn OutOfMemory) (lines : List Action) (old new : Kept) (p : Player) (leaving : Option ℕ) (x : RefusedAction) (q : Player) → Playing lines old p leaving

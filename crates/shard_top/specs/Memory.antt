@@ -22,6 +22,8 @@ is_lacking (answers.NotPrimary a stand) = false
 is_lacking answers.NoPrimaryRecorded = false
 is_lacking (answers.Unknown g a term) = false
 is_lacking (answers.Shown a stand position) = false
+is_lacking (answers.Shard shard recorded) = false
+is_lacking (answers.Tablets rows) = false
 
 -- whether a command ends so
 abbrev pub ends_lacking : Event → Bool

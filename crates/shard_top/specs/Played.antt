@@ -1,8 +1,9 @@
 -- The one run that a script asks for: its lines in order, each with what it sets going, event by event, and the notes of lines that were
 -- refused.
-use Rattle.std.specs.Prelude.{◌≡◌, ◌≤◌, ℕ, ◌+◌, ◌-◌, ◌==◌, ◌&&◌, nat_le, List, [], ◌∷◌, length, drop, Option, Some, None, is_some, option_map, if◌then◌else◌, ⊤}
+use Rattle.std.specs.Prelude.{◌≡◌, ◌≤◌, ℕ, ◌+◌, ◌-◌, ◌==◌, ◌&&◌, true, nat_le, List, [], ◌∷◌, length, drop, Option, Some, None, is_some, option_map, if◌then◌else◌, ⊤}
 use Rattle.std.specs.List.{find}
-use Rattle.shard_calls.specs.World.{Config, World, opening, main_name, open_of, open_command}
+use Rattle.shard_base.specs.Options.{◌>>=◌}
+use Rattle.shard_calls.specs.World.{Config, World, opening, main_name, numbered, open_of, open_command}
 use Rattle.shard_calls.specs.Table.{meets, step_of, after, world_after}
 use Rattle.shard_calls.specs.declared.command.Command.{Command}
 use Rattle.shard_calls.specs.declared.event.Event.{Event}
@@ -59,8 +60,7 @@ asked config w e task = if meets config w e then goes.Makes e task else goes.Fin
 -- `main` gives the command so many times
 abbrev pub gives : Config → World → Command → ℕ → Go
 gives config w command count =
-    if count == 0 then goes.Finished
-    else asked config w (events.Begin main_name command) (tasks.Gives (length w.commands + 1) command (count - 1))
+    if count == 0 then goes.Finished else asked config w (events.Begin main_name command) (tasks.Gives (length w.commands + 1) (count - 1))
 
 -- by at most so many pumps
 abbrev pub turned : ℕ → ℕ → Option Event → Go
@@ -80,31 +80,58 @@ abbrev pub finishes_on : Config → World → ℕ → Option CommandState → Go
 finishes_on config w c None = goes.Finished
 finishes_on config w c (Some s) = finished s (tasks.Finishes c) (pump config w c)
 
-abbrev pub gives_on : Config → World → ℕ → Command → ℕ → Option CommandState → Go
-gives_on config w c command again None = gives config w command again
-gives_on config w c command again (Some s) = finished s (tasks.Gives c command again) (pump config w c)
+-- the command that a line lets `main` give
+abbrev pub command_of : Action → Option Command
+command_of (actions.Play command count) = Some command
+command_of (actions.Start name command) = None
+command_of (actions.Turn name pumps) = None
+command_of (actions.Finish name) = None
+command_of actions.Settle = None
+command_of (actions.Local a) = None
+command_of (actions.Crash a keep) = None
+command_of (actions.Restart a) = None
+command_of (actions.Cut x y) = None
+command_of (actions.Mend x y) = None
+command_of (actions.Lose k) = None
+command_of (actions.Repeat k) = None
+command_of actions.Lapse = None
+command_of (actions.Tick ms) = None
+
+-- the command of the line before a player's place: places count from 0, and so the line before is the one of this number, from 1
+abbrev pub played_at : List Action → ℕ → Option Command
+played_at lines line = numbered lines line >>= command_of
+
+-- it is given once more, so many times
+abbrev pub gives_by : Config → World → Option Command → ℕ → Go
+gives_by config w None again = goes.Finished
+gives_by config w (Some command) again = gives config w command again
+
+abbrev pub gives_on : Config → World → ℕ → Option Command → ℕ → Option CommandState → Go
+gives_on config w c given again None = gives_by config w given again
+gives_on config w c given again (Some s) = finished s (tasks.Gives c again) (pump config w c)
 
 -- until nothing comes of itself any more
 abbrev pub settles : Option Event → Go
 settles None = goes.Finished
 settles (Some e) = goes.Makes e tasks.Settles
 
-abbrev pub go_on : Config → World → Task → Go
-go_on config w tasks.Free = goes.Finished
-go_on config w (tasks.Turns c left) = turns_on config w c left (open_command w c)
-go_on config w (tasks.Finishes c) = finishes_on config w c (open_command w c)
-go_on config w (tasks.Gives c command again) = gives_on config w c command again (open_command w c)
-go_on config w tasks.Settles = settles (arrival config w)
+-- how the task goes on of a player at this place of the lines
+abbrev pub go_on : Config → World → List Action → ℕ → Task → Go
+go_on config w lines line tasks.Free = goes.Finished
+go_on config w lines line (tasks.Turns c left) = turns_on config w c left (open_command w c)
+go_on config w lines line (tasks.Finishes c) = finishes_on config w c (open_command w c)
+go_on config w lines line (tasks.Gives c again) = gives_on config w c (played_at lines line) again (open_command w c)
+go_on config w lines line tasks.Settles = settles (arrival config w)
 
 -- ---- what a line does first
 
 abbrev pub turn_of : Config → World → ℕ → Option ℕ → Go
 turn_of config w pumps None = goes.Finished
-turn_of config w pumps (Some c) = go_on config w (tasks.Turns c pumps)
+turn_of config w pumps (Some c) = turns_on config w c pumps (open_command w c)
 
 abbrev pub finish_of : Config → World → Option ℕ → Go
 finish_of config w None = goes.Finished
-finish_of config w (Some c) = go_on config w (tasks.Finishes c)
+finish_of config w (Some c) = finishes_on config w c (open_command w c)
 
 -- an event that a line asks for; where its row's condition does not hold the line is refused, and that is noted
 abbrev pub unless_refused : Config → World → Event → RefusedAction → Start
@@ -148,7 +175,31 @@ move_on config w lines p goes.Finished = start_at config w p.noted p.line (drop 
 
 -- what a player does next with memory
 abbrev pub plain_move : Config → World → List Action → Player → Move
-plain_move config w lines p = move_on config w lines p (go_on config w p.task)
+plain_move config w lines p = move_on config w lines p (go_on config w lines p.line p.task)
+
+-- ---- what no command makes
+
+-- whether no command makes what this makes: a line's own event, or a message that comes
+abbrev pub IsGoOfNone : Go → Type 0
+IsGoOfNone (goes.Makes e task) = maker_of e ≡ None
+IsGoOfNone (goes.Blocked name) = ⊥
+IsGoOfNone goes.Finished = ⊥
+
+abbrev pub IsStartOfNone : Start → Type 0
+IsStartOfNone (starts_as.Goes go) = IsGoOfNone go
+IsStartOfNone (starts_as.Notes refused) = ⊤
+
+-- or a note
+abbrev pub IsOfNone : Move → Type 0
+IsOfNone (moves.Makes e q) = maker_of e ≡ None
+IsOfNone (moves.Notes refused q) = ⊤
+IsOfNone (moves.Blocked name) = ⊥
+IsOfNone moves.Over = ⊥
+
+-- Memory ran out for this command, which is open; or for nobody, where no command makes what comes next.
+abbrev pub Lacks : World → Type 0 → Option ℕ → Type 0
+Lacks w OfNone None = OfNone
+Lacks w OfNone (Some c) = is_some (open_command w c) ≡ true
 
 -- ---- want of memory
 
@@ -268,13 +319,6 @@ pub record IsRunOf (s : Script) (wants : List Want) (made : List Made) (stop : S
   pub stopped : stop_by (length (steps_of made)) (length (notes_of made)) (move_after s wants made) ≡ Some stop
   pub few : length (steps_of made) ≤ 1000000
   pub few_notes : length (notes_of made) ≤ 1000000
-
--- whether no command makes what this move makes: a line's own event, a message that comes, or a note
-abbrev pub IsOfNone : Move → Type 0
-IsOfNone (moves.Makes e q) = maker_of e ≡ None
-IsOfNone (moves.Notes refused q) = ⊤
-IsOfNone (moves.Blocked name) = ⊥
-IsOfNone moves.Over = ⊥
 
 -- Memory ran out in what comes after this, which no command makes: so nobody can be refused for it.
 pub record IsCutOff (s : Script) (wants : List Want) (made : List Made) : Type 0 where

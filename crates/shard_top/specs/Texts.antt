@@ -2,7 +2,7 @@
 use Rattle.std.specs.Prelude.{ℕ, List, [], ◌++◌, if◌then◌else◌, codes}
 use Rattle.std.specs.Fmt.{decimal}
 use Rattle.shard_calls.specs.declared.event.Step.{Step}
-use Rattle.vtctld_text.specs.Stands.{line}
+use Rattle.tablet_text.specs.Stands.{line}
 use Rattle.vtctld_text.specs.Notes.{has_refusal_with}
 use Rattle.shard_calls.specs.declared.event.Note.{Note}
 use Rattle.shard_top.specs.declared.player.Stop.{Stop}

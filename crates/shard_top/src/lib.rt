@@ -1,6 +1,7 @@
 //! What the program does: it reads a script, plays it, and writes the answers.
 #![tactic(auto)]
 
+mod giving;
 mod laws;
 mod memory;
 mod player;

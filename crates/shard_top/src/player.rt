@@ -1,14 +1,16 @@
-ghost use Rattle.std.specs.Prelude.{◌≡◌, ◌<◌, ◌≤◌, ◌-◌, ◌^◌, true, is_some, drop, length, IfOk, MatchResult};
-ghost use Rattle.shard_calls.specs.World.{main_name, open_of, open_command};
+ghost use Rattle.std.specs.Prelude.{◌≡◌, ◌<◌, ◌≤◌, ◌-◌, ◌^◌, true, drop, length, IfOk, IfErr};
+ghost use Rattle.shard_calls.specs.World.{open_of, open_command};
+ghost use Rattle.shard_calls.specs.Table.{meets};
+ghost use Rattle.shard_core.specs.Causes.{is_told_at_once};
 ghost use Rattle.shard_core.specs.Kept.{world_of};
 ghost use Rattle.shard_script.specs.declared.script.Action.TheVariants as actions;
-ghost use Rattle.planned.specs.Course.{next};
 ghost use Rattle.planned.specs.Leaving.{or_else};
 ghost use Rattle.shard_calls.specs.declared.event.Event.TheVariants as events;
 ghost use Rattle.shard_top.specs.declared.player.Start.TheVariants as forms;
 ghost use Rattle.shard_top.specs.declared.player.Task.TheVariants as tasks;
-ghost use Rattle.shard_top.specs.Played.{delivery, offer, arrival, pump, asked, gives, turned, finished, turns_on, finishes_on, gives_on, settles, go_on, turn_of, finish_of, unless_refused, starts, start_at, plain_move, first_player};
+ghost use Rattle.shard_top.specs.Played.{delivery, offer, arrival, pump, asked, turned, finished, turns_on, finishes_on, played_at, gives_on, settles, go_on, turn_of, finish_of, unless_refused, starts, start_at, plain_move, first_player, IsGoOfNone, IsStartOfNone, IsOfNone, Lacks};
 
+use crate::giving::{begins, gives, gives_by};
 use shard_base::OutOfMemory;
 use shard_calls::{Command, CommandState, Event, Side};
 use shard_core::Shard;
@@ -16,26 +18,17 @@ use shard_names::{Alias, Name};
 use shard_script::Action;
 use vtctld_text::RefusedAction;
 
-/// What is being done.
+/// What is being done. Commands go by their numbers.
 #[derive(Clone, Copy)]
 pub enum Task {
     /// Nothing: the next line is begun.
     Free,
     /// The command goes on by at most so many events.
-    Turns {
-        command: u64,
-        left: u64,
-    },
+    Turns { command: u64, left: u64 },
     /// It goes on until it has ended.
-    Finishes {
-        command: u64,
-    },
-    /// It goes on until it has ended, and then `main` gives a command like it, so many times.
-    Gives {
-        command: u64,
-        asked: Command,
-        again: u64,
-    },
+    Finishes { command: u64 },
+    /// It goes on until it has ended, and then `main` gives that of the line before the player's place once more, so many times.
+    Gives { command: u64, again: u64 },
     /// Messages come and entries are offered, until nothing comes of itself any more.
     Settles,
 }
@@ -81,10 +74,10 @@ pub enum Move {
     Over,
 }
 
-/// The command for which memory ran out while it was worked out what it does next.
+/// Memory ran out while it was worked out what comes next: what this command does, or what no command makes.
 #[derive(Clone, Copy)]
 pub(crate) struct Wanting {
-    pub(crate) command: u64,
+    pub(crate) command: Option<u64>,
 }
 
 /// Why a run stops.
@@ -96,16 +89,6 @@ pub enum Stop {
     Blocked { name: Name },
     /// One more event would be more than a history has.
     Full,
-}
-
-/// The actor who gives every command that no name starts.
-fn main_name() -> Name
-    ensures { result ≡ main_name }
-{
-    match Name::from_slice(b"main") {
-        Some(name) => name,
-        None => unreachable!(),
-    }
 }
 
 /// The player before the first line.
@@ -120,13 +103,6 @@ pub(crate) fn first_player() -> Player
 }
 
 // ---- a pump
-
-fn next_of(shard: &Shard, command: u64) -> Result<Option<Event>, OutOfMemory>
-    ensures { IfOk result (λ event. event ≡ next shard.now.config (world_of shard.now) command) }
-{
-    let fields = shard.fields();
-    planned::next(fields.alloc, fields, command)
-}
 
 /// The coming of the least message that may come to its receiver.
 fn delivery(shard: &Shard) -> Option<Event>
@@ -162,7 +138,7 @@ fn arrival(shard: &Shard) -> Option<Event>
 fn pump(shard: &Shard, command: u64) -> Result<Option<Event>, OutOfMemory>
     ensures { IfOk result (λ event. event ≡ pump shard.now.config (world_of shard.now) command) }
 {
-    match next_of(shard, command)? {
+    match planned::next(shard, command)? {
         Some(event) => Ok(Some(event)),
         None => Ok(arrival(shard)),
     }
@@ -170,35 +146,24 @@ fn pump(shard: &Shard, command: u64) -> Result<Option<Event>, OutOfMemory>
 
 // ---- what a task does next
 
+/// Whether the condition of the event's row holds, which takes no memory to tell.
+fn is_met(shard: &Shard, event: &Event) -> bool
+    requires { is_told_at_once event.now ≡ true }
+    ensures { result ≡ meets shard.now.config (world_of shard.now) event.now }
+{
+    shard.meets_at_once(event)
+}
+
 /// An event that a line asks for, with the task that it sets. Where its condition does not hold it is left out.
 fn asked(shard: &Shard, event: Event, task: &Task) -> Go
+    requires { is_told_at_once event ≡ true }
     ensures { result ≡ asked shard.now.config (world_of shard.now) event task.now }
 {
-    if shard.meets(&event) {
+    if is_met(shard, &event) {
         Go::Makes { event, task: *task }
     } else {
         Go::Finished
     }
-}
-
-/// `main` gives the command so many times.
-fn gives(shard: &Shard, command: &Command, count: u64) -> Go
-    requires few { length (world_of shard.now).commands < 2 ^ 64 - 1 }
-    ensures { result ≡ gives shard.now.config (world_of shard.now) command.now count }
-{
-    if count == 0 {
-        return Go::Finished;
-    }
-    let event = Event::Begin {
-        actor: main_name(),
-        command: *command,
-    };
-    let task = Task::Gives {
-        command: shard.begun() + 1,
-        asked: *command,
-        again: count - 1,
-    };
-    asked(shard, event, &task)
 }
 
 /// At most so many pumps.
@@ -231,20 +196,31 @@ fn finished(state: &CommandState, task: &Task, event: Option<Event>) -> Go
     }
 }
 
+/// Memory ran out for this command.
+fn wants(command: u64) -> Wanting
+    ensures { result ≡ record { command = Some command } }
+{
+    Wanting {
+        command: Some(command),
+    }
+}
+
 fn turns_on(shard: &Shard, command: u64, left: u64) -> Result<Go, Wanting>
-    ensures { MatchResult result (λ it. it ≡ turns_on shard.now.config (world_of shard.now) command left (open_command (world_of shard.now) command)) (λ want. is_some (open_command (world_of shard.now) want.command) ≡ true) }
+    ensures goes { IfOk result (λ go. go ≡ turns_on shard.now.config (world_of shard.now) command left (open_command (world_of shard.now) command)) }
+    ensures wants { IfErr result (λ want. Lacks (world_of shard.now) (IsGoOfNone (turns_on shard.now.config (world_of shard.now) command left (open_command (world_of shard.now) command))) want.command) }
 {
     match shard.command(command) {
         None => Ok(Go::Finished),
         Some(_) => match pump(shard, command) {
             Ok(event) => Ok(turned(command, left, event)),
-            Err(OutOfMemory) => Err(Wanting { command }),
+            Err(OutOfMemory) => Err(wants(command)),
         },
     }
 }
 
 fn finishes_on(shard: &Shard, command: u64) -> Result<Go, Wanting>
-    ensures { MatchResult result (λ it. it ≡ finishes_on shard.now.config (world_of shard.now) command (open_command (world_of shard.now) command)) (λ want. is_some (open_command (world_of shard.now) want.command) ≡ true) }
+    ensures goes { IfOk result (λ go. go ≡ finishes_on shard.now.config (world_of shard.now) command (open_command (world_of shard.now) command)) }
+    ensures wants { IfErr result (λ want. Lacks (world_of shard.now) (IsGoOfNone (finishes_on shard.now.config (world_of shard.now) command (open_command (world_of shard.now) command))) want.command) }
 {
     match shard.command(command) {
         None => Ok(Go::Finished),
@@ -253,27 +229,30 @@ fn finishes_on(shard: &Shard, command: u64) -> Result<Go, Wanting>
                 let task = Task::Finishes { command };
                 Ok(finished(state, &task, event))
             }
-            Err(OutOfMemory) => Err(Wanting { command }),
+            Err(OutOfMemory) => Err(wants(command)),
         },
     }
 }
 
-fn gives_on(shard: &Shard, command: u64, again: &Command, count: u64) -> Result<Go, Wanting>
+fn gives_on(
+    shard: &Shard,
+    lines: &[Action],
+    line: u64,
+    command: u64,
+    again: u64,
+) -> Result<Go, Wanting>
     requires few { length (world_of shard.now).commands < 2 ^ 64 - 1 }
-    ensures { MatchResult result (λ it. it ≡ gives_on shard.now.config (world_of shard.now) command again.now count (open_command (world_of shard.now) command)) (λ want. is_some (open_command (world_of shard.now) want.command) ≡ true) }
+    ensures goes { IfOk result (λ go. go ≡ gives_on shard.now.config (world_of shard.now) command (played_at lines.now line) again (open_command (world_of shard.now) command)) }
+    ensures wants { IfErr result (λ want. Lacks (world_of shard.now) (IsGoOfNone (gives_on shard.now.config (world_of shard.now) command (played_at lines.now line) again (open_command (world_of shard.now) command))) want.command) }
 {
     match shard.command(command) {
-        None => Ok(gives(shard, again, count)),
+        None => gives_by(shard, lines, line, again),
         Some(state) => match pump(shard, command) {
             Ok(event) => {
-                let task = Task::Gives {
-                    command,
-                    asked: *again,
-                    again: count,
-                };
+                let task = Task::Gives { command, again };
                 Ok(finished(state, &task, event))
             }
-            Err(OutOfMemory) => Err(Wanting { command }),
+            Err(OutOfMemory) => Err(wants(command)),
         },
     }
 }
@@ -291,20 +270,17 @@ fn settles(event: Option<Event>) -> Go
     }
 }
 
-/// How the task goes on.
-fn go_on(shard: &Shard, task: &Task) -> Result<Go, Wanting>
+/// How the task goes on of a player at this place of the lines.
+fn go_on(shard: &Shard, lines: &[Action], line: u64, task: &Task) -> Result<Go, Wanting>
     requires few { length (world_of shard.now).commands < 2 ^ 64 - 1 }
-    ensures { MatchResult result (λ it. it ≡ go_on shard.now.config (world_of shard.now) task.now) (λ want. is_some (open_command (world_of shard.now) want.command) ≡ true) }
+    ensures goes { IfOk result (λ go. go ≡ go_on shard.now.config (world_of shard.now) lines.now line task.now) }
+    ensures wants { IfErr result (λ want. Lacks (world_of shard.now) (IsGoOfNone (go_on shard.now.config (world_of shard.now) lines.now line task.now)) want.command) }
 {
     match task {
         Task::Free => Ok(Go::Finished),
         Task::Turns { command, left } => turns_on(shard, *command, *left),
         Task::Finishes { command } => finishes_on(shard, *command),
-        Task::Gives {
-            command,
-            asked,
-            again,
-        } => gives_on(shard, *command, asked, *again),
+        Task::Gives { command, again } => gives_on(shard, lines, line, *command, *again),
         Task::Settles => Ok(settles(arrival(shard))),
     }
 }
@@ -312,7 +288,8 @@ fn go_on(shard: &Shard, task: &Task) -> Result<Go, Wanting>
 // ---- what a line does first
 
 fn turn_of(shard: &Shard, name: &Name, pumps: u64) -> Result<Go, Wanting>
-    ensures { MatchResult result (λ it. it ≡ turn_of shard.now.config (world_of shard.now) pumps (open_of (world_of shard.now).actors name.now)) (λ want. is_some (open_command (world_of shard.now) want.command) ≡ true) }
+    ensures goes { IfOk result (λ go. go ≡ turn_of shard.now.config (world_of shard.now) pumps (open_of (world_of shard.now).actors name.now)) }
+    ensures wants { IfErr result (λ want. Lacks (world_of shard.now) (IsGoOfNone (turn_of shard.now.config (world_of shard.now) pumps (open_of (world_of shard.now).actors name.now))) want.command) }
 {
     match shard.open_of(name) {
         None => Ok(Go::Finished),
@@ -321,7 +298,8 @@ fn turn_of(shard: &Shard, name: &Name, pumps: u64) -> Result<Go, Wanting>
 }
 
 fn finish_of(shard: &Shard, name: &Name) -> Result<Go, Wanting>
-    ensures { MatchResult result (λ it. it ≡ finish_of shard.now.config (world_of shard.now) (open_of (world_of shard.now).actors name.now)) (λ want. is_some (open_command (world_of shard.now) want.command) ≡ true) }
+    ensures goes { IfOk result (λ go. go ≡ finish_of shard.now.config (world_of shard.now) (open_of (world_of shard.now).actors name.now)) }
+    ensures wants { IfErr result (λ want. Lacks (world_of shard.now) (IsGoOfNone (finish_of shard.now.config (world_of shard.now) (open_of (world_of shard.now).actors name.now))) want.command) }
 {
     match shard.open_of(name) {
         None => Ok(Go::Finished),
@@ -329,21 +307,19 @@ fn finish_of(shard: &Shard, name: &Name) -> Result<Go, Wanting>
     }
 }
 
-fn start_command(shard: &Shard, name: &Name, command: &Command) -> Go
-    ensures { result ≡ asked shard.now.config (world_of shard.now) (events.Begin name.now command.now) tasks.Free }
+fn start_command(shard: &Shard, name: &Name, command: &Command) -> Result<Go, Wanting>
+    ensures goes { IfOk result (λ go. go ≡ asked shard.now.config (world_of shard.now) (events.Begin name.now command.now) tasks.Free) }
+    ensures wants { IfErr result (λ want. Lacks (world_of shard.now) (IsGoOfNone (asked shard.now.config (world_of shard.now) (events.Begin name.now command.now) tasks.Free)) want.command) }
 {
-    let event = Event::Begin {
-        actor: *name,
-        command: *command,
-    };
-    asked(shard, event, &Task::Free)
+    begins(shard, name, command, &Task::Free)
 }
 
 /// An event that a line asks for. Where its condition does not hold the line is refused.
 fn unless_refused(shard: &Shard, event: Event, refused: RefusedAction) -> Start
+    requires { is_told_at_once event ≡ true }
     ensures { result ≡ unless_refused shard.now.config (world_of shard.now) event refused }
 {
-    if shard.meets(&event) {
+    if is_met(shard, &event) {
         let go = Go::Makes {
             event,
             task: Task::Free,
@@ -356,6 +332,7 @@ fn unless_refused(shard: &Shard, event: Event, refused: RefusedAction) -> Start
 
 /// An event that a line asks for and nothing refuses.
 fn plainly(shard: &Shard, event: Event) -> Go
+    requires { is_told_at_once event ≡ true }
     ensures { result ≡ asked shard.now.config (world_of shard.now) event tasks.Free }
 {
     asked(shard, event, &Task::Free)
@@ -437,11 +414,12 @@ fn goes(go: Go) -> Start
 /// What the line does first.
 fn starts(shard: &Shard, line: &Action) -> Result<Start, Wanting>
     requires few { length (world_of shard.now).commands < 2 ^ 64 - 1 }
-    ensures { MatchResult result (λ it. it ≡ starts shard.now.config (world_of shard.now) line.now) (λ want. is_some (open_command (world_of shard.now) want.command) ≡ true) }
+    ensures starts { IfOk result (λ start. start ≡ starts shard.now.config (world_of shard.now) line.now) }
+    ensures wants { IfErr result (λ want. Lacks (world_of shard.now) (IsStartOfNone (starts shard.now.config (world_of shard.now) line.now)) want.command) }
 {
     match line {
-        Action::Play { command, count } => Ok(goes(gives(shard, command, *count))),
-        Action::Start { name, command } => Ok(goes(start_command(shard, name, command))),
+        Action::Play { command, count } => Ok(goes(gives(shard, command, *count)?)),
+        Action::Start { name, command } => Ok(goes(start_command(shard, name, command)?)),
         Action::Turn { name, pumps } => Ok(goes(turn_of(shard, name, *pumps)?)),
         Action::Finish { name } => Ok(goes(finish_of(shard, name)?)),
         Action::Settle => Ok(goes(settles(arrival(shard)))),
@@ -460,10 +438,12 @@ fn starts(shard: &Shard, line: &Action) -> Result<Start, Wanting>
 // ---- moves
 
 /// What the first of the lines from this place does that does anything. So many lines were refused before.
+#[tactic(auto, using(crate::proofs::TurnLemmas::starts_lack))]
 fn start_at(shard: &Shard, lines: &[Action], at: u64, noted: u64) -> Result<Move, Wanting>
     requires few { length (world_of shard.now).commands < 2 ^ 64 - 1 }
     requires each_line_once { noted ≤ at }
-    ensures { MatchResult result (λ it. it ≡ start_at shard.now.config (world_of shard.now) noted at (drop at lines.now)) (λ want. is_some (open_command (world_of shard.now) want.command) ≡ true) }
+    ensures moves { IfOk result (λ move. move ≡ start_at shard.now.config (world_of shard.now) noted at (drop at lines.now)) }
+    ensures wants { IfErr result (λ want. Lacks (world_of shard.now) (IsOfNone (start_at shard.now.config (world_of shard.now) noted at (drop at lines.now))) want.command) }
 {
     for place in at as usize..lines.len() {
         let line = place as u64 + 1;
@@ -493,9 +473,10 @@ fn start_at(shard: &Shard, lines: &[Action], at: u64, noted: u64) -> Result<Move
 pub(crate) fn plain_move(shard: &Shard, lines: &[Action], player: &Player) -> Result<Move, Wanting>
     requires few { length (world_of shard.now).commands < 2 ^ 64 - 1 }
     requires each_line_once { player.now.noted ≤ player.now.line }
-    ensures { MatchResult result (λ it. it ≡ plain_move shard.now.config (world_of shard.now) lines.now player.now) (λ want. is_some (open_command (world_of shard.now) want.command) ≡ true) }
+    ensures moves { IfOk result (λ move. move ≡ plain_move shard.now.config (world_of shard.now) lines.now player.now) }
+    ensures wants { IfErr result (λ want. Lacks (world_of shard.now) (IsOfNone (plain_move shard.now.config (world_of shard.now) lines.now player.now)) want.command) }
 {
-    match go_on(shard, &player.task)? {
+    match go_on(shard, lines, player.line, &player.task)? {
         Go::Makes { event, task } => {
             let player = Player { task, ..*player };
             Ok(Move::Makes { event, player })

@@ -1,4 +1,4 @@
-ghost use Rattle.std.specs.Prelude.{◌≡◌, ◌≤◌, ◌<◌, [], ◌∷◌, ◌++◌, length, List, ℕ, true, nat_le, is_some, IfOk, OnOk, OnErr, IsOk, IsErrOf, MatchResult, Option, Some, None};
+ghost use Rattle.std.specs.Prelude.{◌≡◌, ◌≤◌, ◌<◌, [], ◌∷◌, ◌++◌, length, List, ℕ, true, nat_le, is_some, IfOk, IfErr, OnOk, OnErr, IsOk, IsErrOf, Option, Some, None};
 ghost use Rattle.shard_calls.specs.World.{open_command};
 ghost use Rattle.shard_core.specs.Room.{has_room_kept};
 ghost use Rattle.shard_calls.specs.Table.{Met};
@@ -9,7 +9,7 @@ ghost use Rattle.planned.specs.Laws.{NextIsMet};
 ghost use Rattle.shard_script.specs.declared.script.Action.{Action as Line};
 ghost use Rattle.shard_top.specs.declared.player.Move.TheVariants as moves;
 ghost use Rattle.shard_top.specs.declared.player.Player.{Player as Stands};
-ghost use Rattle.shard_top.specs.Played.{first_moment, config_of, plain_move};
+ghost use Rattle.shard_top.specs.Played.{first_moment, config_of, plain_move, IsOfNone, Lacks};
 ghost use Rattle.vtctld_text.specs.Notes.{action_text};
 ghost use Rattle.shard_top.specs.Playing.{with_note, still_open, Playing, IsStopped, IsCut, IsTurn, HasRun, WasCutOff};
 
@@ -119,7 +119,7 @@ fn make_kept(shard: &mut Shard, event: Event)
 fn leaves(shard: &Shard, command: u64) -> Event
     ensures { result ≡ leaves (world_of shard.now) command }
 {
-    planned::leaves(shard.fields(), command)
+    planned::leaves(shard, command)
 }
 
 /// The open command, which has run out of memory, frees the lock, or else ends. It takes no memory.
@@ -146,7 +146,7 @@ fn leave_now(shard: &mut Shard, command: u64, player: &Player) -> Turn
     leave(shard, command, player)
 }
 
-/// Memory has run out in an event of this command, which leaves. Where no command makes it, all ends.
+/// Memory has run out for this command, which leaves. Where no command makes what comes next, all ends.
 fn give_up(shard: &mut Shard, maker: Option<u64>, player: &Player) -> Result<Turn, OutOfMemory>
     requires is_open { (c : ℕ) → maker ≡ Some c → is_some (open_command (world_of shard.old) c) ≡ true }
     ensures turn { IfOk result (λ turn. (lines : List Line) (leaving : Option ℕ) → still_open (world_of shard.old) leaving ≡ None
@@ -273,7 +273,8 @@ fn turn_by(
 fn next_move(shard: &Shard, lines: &[Action], player: &Player) -> Result<Move, Wanting>
     requires few { length shard.now.steps ≤ 1000000 }
     requires each_line_once { player.now.noted ≤ player.now.line }
-    ensures known { MatchResult result (λ it. it ≡ plain_move shard.now.config (world_of shard.now) lines.now player.now) (λ want. is_some (open_command (world_of shard.now) want.command) ≡ true) }
+    ensures known { IfOk result (λ move. move ≡ plain_move shard.now.config (world_of shard.now) lines.now player.now) }
+    ensures wants { IfErr result (λ want. Lacks (world_of shard.now) (IsOfNone (plain_move shard.now.config (world_of shard.now) lines.now player.now)) want.command) }
     ensures met { NextIsMet shard.now.config (world_of shard.now) }
 {
     let _fields = shard.fields();
@@ -295,10 +296,7 @@ fn plain_turn(
 {
     match next_move(shard, lines, player) {
         Ok(made) => turn_by(shard, lines, player, leaving, made),
-        Err(wanting) => {
-            let turn = leave_now(shard, wanting.command, player);
-            Ok(turn)
-        }
+        Err(wanting) => give_up(shard, wanting.command, player),
     }
 }
 

@@ -7,6 +7,8 @@
 mod edge_tests;
 #[cfg(test)]
 mod policy_tests;
+#[cfg(test)]
+mod reparent_tests;
 mod streams;
 #[cfg(test)]
 mod tests;

@@ -134,18 +134,6 @@ PlannedReparentShard commerce/0 --new-primary zone1-103\n",
             printed: "PlannedReparentShard commerce/0: refused 4 NotEligible: zone1-0000000103 must_not\n",
             status: 1,
         },
-        Row {
-            script: &[
-                THREE_REPLICAS,
-                "PlannedReparentShard commerce/0 --new-primary zone1-100
-PlannedReparentShard commerce/0 --new-primary zone1-101
-",
-            ],
-            printed: "PlannedReparentShard commerce/0: promoted zone1-0000000100 in term 1
-PlannedReparentShard commerce/0: refused 21 NotBuilt: intent of term 1
-",
-            status: 1,
-        },
     ];
     plays(&rt, rt.alloc(), &rows)
 }
@@ -153,7 +141,7 @@ PlannedReparentShard commerce/0: refused 21 NotBuilt: intent of term 1
 #[test]
 fn reparents_compete_for_the_lock(rt: HostRuntime) -> Result<(), Fail> {
     let rows = [
-        // The lock is taken, then lapses, and the first one loses it to the next term.
+        // The lock is taken, then lapses. The next term finds an intent that it cannot finish, and the first one comes too late.
         Row {
             script: &[
                 THREE_REPLICAS,
@@ -168,8 +156,8 @@ write 1
 ",
             ],
             printed: "PlannedReparentShard commerce/0: refused 1 LockTaken: term 1 by p
-PlannedReparentShard commerce/0: refused 21 NotBuilt: intent of term 1
-[p] PlannedReparentShard commerce/0: refused 2 LockLost: topology is at term 2
+PlannedReparentShard commerce/0: refused 7 ReparentPending: zone1-0000000100 in term 1
+[p] PlannedReparentShard commerce/0: refused 11 StaleTerm: zone1-0000000100 has seen term 2
 write: no primary recorded
 ",
             status: 1,
