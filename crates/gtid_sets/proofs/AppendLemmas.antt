@@ -3,7 +3,8 @@ use Rattle.std.proofs.Common.{◌≡◌, ◌≤◌, ◌⊎◌, inl, inr, ℕ, ze
 use Rattle.std.specs.declared.cmp.Ordering.TheVariants.{Less}
 use Rattle.gtid_sets.specs.declared.gtid.Gtid.{Gtid}
 use Rattle.gtid_sets.specs.declared.interval.Interval.{Interval}
-use Rattle.gtid_sets.specs.Intervals.{start, past, holds, within, Beyond, StartsBy, Behind, Ordered, touches, joined}
+use Rattle.gtid_sets.specs.Intervals.{start, past, holds, within, Beyond, StartsBy, StartsRise, Behind, Ordered, touches, joined}
+use Rattle.gtid_sets.proofs.BoolLemmas.{or_false, or_assoc, true_not_false}
 use Rattle.gtid_sets.proofs.OrderLemmas.{Lt, Le, lt_trans, lt_never, lt_le, le_or_lt, le_cases, lt_server, server_cmp, start_past}
 use Rattle.gtid_sets.proofs.IntervalLemmas.{starts_further}
 use Rattle.gtid_sets.proofs.PutLemmas.{Touched, touches_is, touches_from, holds_joined}
@@ -21,9 +22,6 @@ apart n y le none = elim (le_or_lt (start n) (past y)) [
   | inr lt ↦ lt
 ]
   where
-    true_not_false : (b : Bool) → b ≡ true → b ≡ false → ⊥
-    true_not_false b p q = cc
-
     refuted : Le (start n) (past y) → ⊥
     refuted low = elim (le_cases (start n) (past y) low) [
       | inl s ↦ elim (le_cases (start y) (start n) le) [
@@ -58,10 +56,6 @@ append_ordered n (y ∷ x ∷ xs) some by h =
 -- ---- members
 pub append_within : (n : Interval) (xs : List Interval) (q : Gtid) → n.first ≤ n.last → StartsBy (start n) xs → Ordered xs → within (append_in n xs) q ≡ (within xs q || holds n q)
 append_within n [] q some by h = or_false (holds n q)
-  where
-    or_false : (b : Bool) → (b || false) ≡ b
-    or_false true = refl
-    or_false false = refl
 append_within n (y ∷ []) q some by h = at (touches (start n) y) refl
   where
     at : (b : Bool) → touches (start n) y ≡ b → within (cond b (joined y n ∷ []) (y ∷ n ∷ [])) q ≡ ((holds y q || false) || holds n q)
@@ -83,11 +77,7 @@ append_within n (y ∷ []) q some by h = at (touches (start n) y) refl
         move true b = refl
         move false true = refl
         move false false = refl
-append_within n (y ∷ x ∷ xs) q some by h = ap (λ b. holds y q || b) (append_within n (x ∷ xs) q some by.1 h.1.1) ∙ shift (holds y q) (within (x ∷ xs) q) (holds n q)
-  where
-    shift : (a b c : Bool) → (a || (b || c)) ≡ ((a || b) || c)
-    shift true b c = refl
-    shift false b c = refl
+append_within n (y ∷ x ∷ xs) q some by h = ap (λ b. holds y q || b) (append_within n (x ∷ xs) q some by.1 h.1.1) ∙ or_assoc (holds y q) (within (x ∷ xs) q) (holds n q)
 
 -- ---- where they begin
 pub append_starts : (n : Interval) (xs : List Interval) → StartsBy (start n) xs → StartsBy (start n) (append_in n xs)
@@ -113,10 +103,19 @@ push_append n (y ∷ []) none = let here : touches (start n) y ≡ false = none 
 push_append n (y ∷ x ∷ xs) none = ap (λ zs. y ∷ zs) (push_append n (x ∷ xs) (λ k d e. none (suc k) d (omega arith)))
 
 -- ---- what is still to come begins no lower
+pub ordered_rises : (xs : List Interval) → Ordered xs → StartsRise xs
+ordered_rises [] h = tt
+ordered_rises (x ∷ []) h = tt
+ordered_rises (x ∷ y ∷ ys) h = (inl (lt_trans (start x) (past x) (start y) (start_past x h.0) h.1.0.0), ordered_rises (y ∷ ys) h.1.1)
+
+pub rise_rest : (x : Interval) (xs : List Interval) → StartsRise (x ∷ xs) → StartsRise xs
+rise_rest x [] h = tt
+rise_rest x (y ∷ ys) h = h.1
+
+pub behind_rise : (xs : List Interval) (y : Interval) (ys : List Interval) → StartsRise (y ∷ ys) → StartsBy (start y) xs → Behind xs ys
+behind_rise xs y [] h by = tt
+behind_rise xs y (z ∷ zs) h by = starts_further (start y) (start z) xs h.0 by
+
 -- the next of a list in order
 pub behind_next : (xs ys : List Interval) (y : Interval) → Ordered (y ∷ ys) → StartsBy (start y) xs → Behind xs ys
-behind_next xs [] y h by = tt
-behind_next xs (z ∷ zs) y h by = starts_further (start y) (start z) xs (inl (lt_trans (start y) (past y) (start z) (start_past y h.0) h.1.0.0)) by
-
-pub behind_from : (xs : List Interval) (g : Gtid) (y : Interval) (ys : List Interval) → Le g (start y) → StartsBy g xs → Behind xs (y ∷ ys)
-behind_from xs g y ys le by = starts_further g (start y) xs le by
+behind_next xs ys y h by = behind_rise xs y ys (ordered_rises (y ∷ ys) h) by

@@ -1,18 +1,17 @@
 -- Whether a list of intervals in order has all of another.
-use Rattle.std.proofs.Common.{◌≡◌, ◌≤◌, inl, inr, ℕ, ◌+◌, Bool, true, false, ◌&&◌, ◌||◌, nat_le, nat_lt, List, [], ◌∷◌, refl, sym, subst, ◌∙◌, arith}
+use Rattle.std.proofs.Common.{◌≡◌, ◌≤◌, inl, inr, ℕ, Bool, true, false, ◌&&◌, ◌||◌, nat_le, nat_lt, List, [], ◌∷◌, refl, sym, subst, ◌∙◌, arith}
 use Rattle.std.specs.Str.{bytes_eq}
 use Rattle.std.specs.Ordering.{nat_cmp, match_ordering}
 use Rattle.std.specs.Cmp.Lexicographic.{slice_cmp}
 use Rattle.std.specs.declared.cmp.Ordering.TheVariants.{Less, Equal, Greater}
-use Rattle.std.proofs.lemmas.Bool.Decides.{nat_tests}
 use Rattle.std.proofs.lemmas.Slice.Eq.{bytes_eq-Decides}
 use Rattle.std.proofs.lemmas.Map.Lookups.{exact_bytes}
 use Rattle.shard_names.proofs.TabletLemmas.{both_left, both_right, both}
 use Rattle.gtid_sets.specs.declared.gtid.Gtid.{Gtid}
 use Rattle.gtid_sets.specs.declared.interval.Interval.{Interval}
 use Rattle.gtid_sets.specs.Intervals.{start, past, holds, within, Ordered, contains, stands_before}
-use Rattle.gtid_sets.proofs.BoolLemmas.{or_left, or_right}
-use Rattle.gtid_sets.proofs.OrderLemmas.{Lt, Le, lt_trans, lt_never, le_le, le_or_lt, le_cases, lt_server, le_number, server_cmp, server_itself, le_true, le_test, Held, holds_is, holds_from, holds_between, start_past, not_held_past}
+use Rattle.gtid_sets.proofs.BoolLemmas.{or_left, or_right, true_not_false}
+use Rattle.gtid_sets.proofs.OrderLemmas.{Lt, Le, lt_trans, lt_never, le_le, le_or_lt, le_cases, lt_server, le_number, server_cmp, server_itself, le_true, le_test, lt_true, lt_test, Held, holds_is, holds_from, holds_between, start_past, not_held_past}
 use Rattle.gtid_sets.proofs.IntervalLemmas.{or_cases, not_within, not_within_below, within_start}
 
 -- whatever is in the second list is in the first
@@ -32,12 +31,9 @@ contains_members x y g c h =
 before_is : (x y : Interval) → stands_before x y ≡ true → Le (past x) (start y)
 before_is x y h = elim (slice_cmp nat_cmp x.server y.server) as (λ o. slice_cmp nat_cmp x.server y.server ≡ o → match_ordering o true (nat_lt x.last y.first) false ≡ true → Le (past x) (start y)) [
   | Less ↦ λ e k. inl (lt_server (past x) (start y) e)
-  | Equal ↦ λ e k. le_number (past x) (start y) (exact_bytes x.server y.server e) (less x.last y.first k)
+  | Equal ↦ λ e k. le_number (past x) (start y) (exact_bytes x.server y.server e) (omega (arith, lt_true x.last y.first k))
   | Greater ↦ λ e k. absurd (cc)
 ] refl h
-  where
-    less : (m n : ℕ) → nat_lt m n ≡ true → m + 1 ≤ n
-    less m n h = grind (arith, nat_tests)
 
 before_not : (x y : Interval) → stands_before x y ≡ false → Lt (start y) (past x)
 before_not x y h = elim (le_or_lt (past x) (start y)) [
@@ -45,16 +41,10 @@ before_not x y h = elim (le_or_lt (past x) (start y)) [
   | inr lt ↦ lt
 ]
   where
-    lt_test : (m n : ℕ) → m + 1 ≤ n → nat_lt m n ≡ true
-    lt_test m n h = grind (arith, nat_tests)
-
-    true_not_false : (b : Bool) → b ≡ true → b ≡ false → ⊥
-    true_not_false b p q = cc
-
     refuted : Le (past x) (start y) → ⊥
     refuted le = elim (le_cases (past x) (start y) le) [
       | inl s ↦ true_not_false (stands_before x y) (rw s refl) h
-      | inr p ↦ true_not_false (stands_before x y) (rw (subst (λ (t : List ℕ). server_cmp x.server t ≡ Equal) p.0 (server_itself x.server)) (lt_test x.last y.first p.1)) h
+      | inr p ↦ true_not_false (stands_before x y) (rw (subst (λ (t : List ℕ). server_cmp x.server t ≡ Equal) p.0 (server_itself x.server)) (lt_test x.last y.first (omega (arith, p.1)))) h
     ]
 
 -- ---- one step
@@ -99,9 +89,6 @@ not_all xs ys x y h k c b all = elim (le_or_lt (start x) (start y)) [
   where
     beyond_both : {a b : Bool} → a ≡ false → b ≡ false → (a || b) ≡ false
     beyond_both e f = rw (e, f) refl
-
-    true_not_false : (b : Bool) → b ≡ true → b ≡ false → ⊥
-    true_not_false b p q = cc
 
     inside : Le (start x) (start y) → Le (past y) (past x) → ⊥
     inside low high = elim (le_cases (start x) (start y) low) [

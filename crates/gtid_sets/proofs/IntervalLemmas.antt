@@ -1,5 +1,5 @@
 -- Lists of intervals in order: what is beyond an interval, and what is in none.
-use Rattle.std.proofs.Common.{◌≡◌, ◌≤◌, ◌⊎◌, inl, inr, Bool, true, false, ◌||◌, List, [], ◌∷◌, ◌++◌, refl, ap, ◌∙◌}
+use Rattle.std.proofs.Common.{◌≡◌, ◌≤◌, ◌⊎◌, inl, inr, Bool, true, false, ◌||◌, List, [], ◌∷◌, refl}
 use Rattle.gtid_sets.specs.declared.gtid.Gtid.{Gtid}
 use Rattle.gtid_sets.specs.declared.interval.Interval.{Interval}
 use Rattle.gtid_sets.specs.Intervals.{start, past, holds, within, Beyond, StartsBy, Ordered}
@@ -37,14 +37,6 @@ within_start x xs g h m = elim (or_cases (holds x g) (within xs g) m) [
 
 pub not_within_below : (x : Interval) (xs : List Interval) (g : Gtid) → Ordered (x ∷ xs) → Lt g (start x) → within (x ∷ xs) g ≡ false
 not_within_below x xs g h low = not_true (within (x ∷ xs) g) (λ m. lt_never g (lt_le g (start x) g low (within_start x xs g h m)))
-
-pub within_append : (xs ys : List Interval) (g : Gtid) → within (xs ++ ys) g ≡ (within xs g || within ys g)
-within_append [] ys g = refl
-within_append (x ∷ xs) ys g = ap (λ b. holds x g || b) (within_append xs ys g) ∙ shift (holds x g) (within xs g) (within ys g)
-  where
-    shift : (a b c : Bool) → (a || (b || c)) ≡ ((a || b) || c)
-    shift true b c = refl
-    shift false b c = refl
 
 -- ---- beginning by a transaction
 pub starts_further : (g k : Gtid) (xs : List Interval) → Le g k → StartsBy g xs → StartsBy k xs

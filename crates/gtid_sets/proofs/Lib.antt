@@ -8,6 +8,7 @@ pub mod IntervalLemmas
 pub mod PutLemmas
 pub mod AppendLemmas
 pub mod CutLemmas
+pub mod WalkLemmas
 pub mod CoverLemmas
 pub mod ListedLemmas
 pub mod SameLemmas

@@ -5,7 +5,6 @@ use Rattle.std.specs.Str.{bytes_eq}
 use Rattle.std.specs.Ordering.{nat_cmp, match_ordering}
 use Rattle.std.specs.Cmp.Lexicographic.{slice_cmp}
 use Rattle.std.specs.declared.cmp.Ordering.TheVariants.{Less, Equal, Greater}
-use Rattle.std.proofs.lemmas.Bool.Decides.{nat_tests}
 use Rattle.std.proofs.lemmas.Slice.Eq.{bytes_eq-Decides}
 use Rattle.std.proofs.lemmas.Map.Lookups.{exact_bytes}
 use Rattle.shard_names.proofs.TabletLemmas.{both_left, both_right, both}
@@ -14,7 +13,8 @@ use Rattle.gtid_sets.specs.declared.interval.Interval.{Interval}
 use Rattle.gtid_sets.specs.Gtid.{gtid_eq}
 use Rattle.gtid_sets.specs.Intervals.{start, past, holds, within, alone, HasWith, Beyond, Ordered, ends_below, touches, wide, joined}
 use Rattle.gtid_sets.proofs.NumberLemmas.{number_alone, number_wide, number_joined}
-use Rattle.gtid_sets.proofs.OrderLemmas.{Lt, Le, lt_trans, lt_never, le_lt, le_or_lt, lt_cases, le_cases, lt_server, lt_number, le_number, server_cmp, server_itself, le_true, le_test, start_past, not_held_past}
+use Rattle.gtid_sets.proofs.BoolLemmas.{or_assoc, or_swap, true_not_false}
+use Rattle.gtid_sets.proofs.OrderLemmas.{Lt, Le, lt_trans, lt_never, le_lt, le_or_lt, lt_cases, le_cases, lt_server, lt_number, le_number, server_cmp, server_itself, le_true, le_test, lt_true, lt_test, start_past, not_held_past}
 use Rattle.gtid_sets.proofs.IntervalLemmas.{beyond_from, beyond_further, not_within}
 
 -- the first that a transaction touches, with it, and with the next where it touches that too
@@ -34,9 +34,6 @@ ends_is g x h = elim (slice_cmp nat_cmp x.server g.server) as (λ o. slice_cmp n
   | Equal ↦ λ e k. lt_number (past x) g (exact_bytes x.server g.server e) (lt_true (x.last + 1) g.number k)
   | Greater ↦ λ e k. absurd (cc)
 ] refl h
-  where
-    lt_true : (m n : ℕ) → nat_lt m n ≡ true → m < n
-    lt_true m n h = grind (arith, nat_tests)
 
 pub ends_not : (g : Gtid) (x : Interval) → ends_below g x ≡ false → Le g (past x)
 ends_not g x h = elim (le_or_lt g (past x)) [
@@ -44,12 +41,6 @@ ends_not g x h = elim (le_or_lt g (past x)) [
   | inr lt ↦ absurd (refuted lt)
 ]
   where
-    lt_test : (m n : ℕ) → m < n → nat_lt m n ≡ true
-    lt_test m n h = grind (arith, nat_tests)
-
-    true_not_false : (b : Bool) → b ≡ true → b ≡ false → ⊥
-    true_not_false b p q = cc
-
     refuted : Lt (past x) g → ⊥
     refuted lt = elim (lt_cases (past x) g lt) [
       | inl s ↦ true_not_false (ends_below g x) (rw s refl) h
@@ -82,9 +73,6 @@ gap_below g x le none = elim (le_or_lt (start x) (past (alone g))) [
   | inr lt ↦ lt
 ]
   where
-    true_not_false : (b : Bool) → b ≡ true → b ≡ false → ⊥
-    true_not_false b p q = cc
-
     refuted : Le (start x) (past (alone g)) → ⊥
     refuted low = elim (le_cases (start x) (past (alone g)) low) [
       | inl s ↦ elim (le_cases g (past x) le) [
@@ -183,17 +171,9 @@ holds_joined x y q e low high some other =
     ∙ ap (λ (s : List ℕ). holds x q || (bytes_eq q.server s && (nat_le y.first q.number && nat_le q.number y.last))) e
 
 within_widened : (g q : Gtid) (x : Interval) (xs : List Interval) → Touched g x → Ordered (x ∷ xs) → within (widened g x xs) q ≡ (gtid_eq q g || (holds x q || within xs q))
-within_widened g q x [] t h = ap (λ b. b || false) (holds_wide g q x t h.0) ∙ shift (gtid_eq q g) (holds x q) false
-  where
-    shift : (a b c : Bool) → ((a || b) || c) ≡ (a || (b || c))
-    shift true b c = refl
-    shift false b c = refl
+within_widened g q x [] t h = ap (λ b. b || false) (holds_wide g q x t h.0) ∙ sym (or_assoc (gtid_eq q g) (holds x q) false)
 within_widened g q x (y ∷ ys) t h = at (touches g y) refl
   where
-    shift : (a b c : Bool) → ((a || b) || c) ≡ (a || (b || c))
-    shift true b c = refl
-    shift false b c = refl
-
     shift_more : (a b c d : Bool) → (((a || b) || c) || d) ≡ (a || (b || (c || d)))
     shift_more true b c d = refl
     shift_more false true c d = refl
@@ -209,20 +189,15 @@ within_widened g q x (y ∷ ys) t h = at (touches g y) refl
         same_gap : (server_cmp x.server y.server ≡ Less) ⊎ ((x.server ≡ y.server) × (x.last + 1 < y.first)) → x.last + 1 < y.first
         same_gap (inl s) = let u : Touched g y = touches_is g y e in absurd (lt_never g (lt_server g g (subst (λ (v : List ℕ). server_cmp g.server v ≡ Less) (sym u.servers) (subst (λ (v : List ℕ). server_cmp v y.server ≡ Less) (sym t.servers) s))))
         same_gap (inr p) = p.1
-    at false e = ap (λ b. b || (holds y q || within ys q)) (holds_wide g q x t h.0) ∙ shift (gtid_eq q g) (holds x q) (holds y q || within ys q)
+    at false e = ap (λ b. b || (holds y q || within ys q)) (holds_wide g q x t h.0) ∙ sym (or_assoc (gtid_eq q g) (holds x q) (holds y q || within ys q))
 
 pub put_within : (g q : Gtid) (xs : List Interval) → Ordered xs → within (put_in g xs) q ≡ (gtid_eq q g || within xs q)
 put_within g q [] h = ap (λ b. b || false) (holds_alone g q)
 put_within g q (x ∷ xs) h = at (ends_below g x) (touches g x) refl (put_within g q xs h.1.1)
   where
-    swap : (a b c : Bool) → (a || (b || c)) ≡ (b || (a || c))
-    swap true true c = refl
-    swap true false c = refl
-    swap false b c = refl
-
     at : (b t : Bool) → touches g x ≡ t → within (put_in g xs) q ≡ (gtid_eq q g || within xs q)
         → within (cond b (x ∷ put_in g xs) (cond t (widened g x xs) (alone g ∷ x ∷ xs))) q ≡ (gtid_eq q g || (holds x q || within xs q))
-    at true t f rest = ap (λ b. holds x q || b) rest ∙ swap (holds x q) (gtid_eq q g) (within xs q)
+    at true t f rest = ap (λ b. holds x q || b) rest ∙ or_swap (holds x q) (gtid_eq q g) (within xs q)
     at false true f rest = within_widened g q x xs (touches_is g x f) h
     at false false f rest = ap (λ b. b || (holds x q || within xs q)) (holds_alone g q)
 

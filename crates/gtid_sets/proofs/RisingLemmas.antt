@@ -9,7 +9,7 @@ use Rattle.gtid_sets.specs.Gtid.{gtid_cmp, gtid_eq}
 use Rattle.gtid_sets.specs.GtidOrder.{gtid_total}
 use Rattle.gtid_sets.specs.Rising.{rises, put, rises-put, T_both, T_left, T_right, is_below, is_above}
 use Rattle.gtid_sets.specs.Position.{of_gtids}
-use Rattle.gtid_sets.proofs.BoolLemmas.{or_left, or_right}
+use Rattle.gtid_sets.proofs.BoolLemmas.{or_left, or_right, or_assoc, or_swap, and_false}
 use Rattle.gtid_sets.proofs.GtidLemmas.{same_gtid, gtid_eq_itself, gtid_eq_is, below_differs}
 
 -- whether a list has a transaction
@@ -65,11 +65,7 @@ not_member x (y ∷ ys) low = rw (below_differs x y low.0, not_member x ys low.1
 
 pub member_append : (g : Gtid) (xs ys : List Gtid) → member (xs ++ ys) g ≡ (member xs g || member ys g)
 member_append g [] ys = refl
-member_append g (x ∷ xs) ys = rw (member_append g xs ys) (shift (gtid_eq g x) (member xs g) (member ys g))
-  where
-    shift : (a b c : Bool) → (a || (b || c)) ≡ ((a || b) || c)
-    shift true b c = refl
-    shift false b c = refl
+member_append g (x ∷ xs) ys = rw (member_append g xs ys) (or_assoc (gtid_eq g x) (member xs g) (member ys g))
 
 -- ---- two lists in order that have the same members are one
 pub same_list : (xs ys : List Gtid) → T (rises xs) → T (rises ys) → ((g : Gtid) → member xs g ≡ member ys g) → xs ≡ ys
@@ -117,17 +113,12 @@ member_put g q (x ∷ xs) =
     elim (gtid_cmp g x) as (λ o. gtid_cmp g x ≡ o → member (match_ordering o (g ∷ x ∷ xs) (x ∷ xs) (x ∷ put g xs)) q ≡ (gtid_eq q g || (gtid_eq q x || member xs q))) [
       | Less ↦ λ e. refl
       | Equal ↦ λ e. rw (same_gtid g x e) (again (gtid_eq q x) (member xs q))
-      | Greater ↦ λ e. rw (member_put g q xs) (swap (gtid_eq q x) (gtid_eq q g) (member xs q))
+      | Greater ↦ λ e. rw (member_put g q xs) (or_swap (gtid_eq q x) (gtid_eq q g) (member xs q))
     ] refl
   where
     again : (a b : Bool) → (a || b) ≡ (a || (a || b))
     again true b = refl
     again false b = refl
-
-    swap : (a b c : Bool) → (a || (b || c)) ≡ (b || (a || c))
-    swap true true c = refl
-    swap true false c = refl
-    swap false b c = refl
 
 pub member_of_gtids : (gs : List Gtid) (q : Gtid) → member (of_gtids gs).gtids q ≡ member gs q
 member_of_gtids [] q = refl
@@ -148,11 +139,7 @@ member_filter f g (x ∷ xs) =
   where
     at : (b : Bool) → member (filter f xs) g ≡ (member xs g && f g) → f g ≡ b → member (cond b (g ∷ filter f xs) (filter f xs)) g ≡ b
     at true m e = or_left (gtid_eq g g) (member (filter f xs) g) (gtid_eq_itself g)
-    at false m e = m ∙ (rw e (never (member xs g)))
-      where
-        never : (a : Bool) → (a && false) ≡ false
-        never true = refl
-        never false = refl
+    at false m e = m ∙ (rw e (and_false (member xs g)))
 
     off : (y : Gtid) → gtid_eq g y ≡ false → (b : Bool) → member (cond b (y ∷ filter f xs) (filter f xs)) g ≡ member (filter f xs) g
     off y e true = rw e refl

@@ -1,6 +1,6 @@
 -- Intervals of transactions, as the MySQL 8.0 manual writes a GTID set ("GTID Format and Storage"): a server and its numbers from
 -- the first to the last.
-use Rattle.std.specs.Prelude.{◌≡◌, ◌⊎◌, ℕ, zero, suc, ◌+◌, ◌-◌, ◌≤◌, Bool, true, false, ◌&&◌, ◌||◌, List, [], ◌∷◌, ◌++◌, Option, Some, None, min, max, nat_lt, nat_le, if◌then◌else◌}
+use Rattle.std.specs.Prelude.{◌≡◌, ◌⊎◌, ℕ, zero, suc, ◌+◌, ◌-◌, ◌≤◌, Bool, true, false, ◌&&◌, ◌||◌, not, List, [], ◌∷◌, ◌++◌, Option, Some, None, min, max, nat_lt, nat_le, if◌then◌else◌}
 use Rattle.std.specs.List.{list_any}
 use Rattle.std.specs.Str.{bytes_eq}
 use Rattle.std.specs.Ordering.{nat_cmp, match_ordering}
@@ -8,6 +8,8 @@ use Rattle.std.specs.Cmp.Lexicographic.{slice_cmp}
 use Rattle.std.specs.declared.cmp.Ordering.TheVariants.{Less}
 use Rattle.gtid_sets.specs.declared.gtid.Gtid.{Gtid}
 use Rattle.gtid_sets.specs.declared.interval.Interval.{Interval}
+use Rattle.gtid_sets.specs.declared.intervals.Taken.{Taken}
+use Rattle.gtid_sets.specs.declared.intervals.Taken.TheVariants.{Either, FirstAlone}
 use Rattle.gtid_sets.specs.Gtid.{gtid_cmp, gtid_eq}
 use Rattle.gtid_sets.specs.Position.{Position, of_gtids}
 
@@ -75,6 +77,11 @@ OneListEach = (xs ys : List Interval) → Ordered xs → Ordered ys → ((g : Gt
 -- the second list has what the first has, and one transaction
 abbrev pub HasWith : Gtid → List Interval → List Interval → Type 0
 HasWith g xs ys = (q : Gtid) → within ys q ≡ (gtid_eq q g || within xs q)
+
+-- whether a transaction is taken of two lists, by whether the first has it and whether the second has it
+abbrev pub takes : Taken → Bool → Bool → Bool
+takes Either a b = a || b
+takes FirstAlone a b = a && not b
 
 -- their transactions, one after another
 unfoldable pub listed : List Interval → List Gtid

@@ -2,7 +2,8 @@ ghost use Rattle.std.specs.Prelude.{◌≡◌, ◌↔◌, IsTrue, IfOk, OnOk, On
 ghost use Rattle.gtid_sets.specs.Position.{nothing, with_gtid, has, count, union, minus, covers};
 ghost use Rattle.gtid_sets.specs.Intervals.{Ordered, holds, within, position_of};
 
-use crate::{Gtid, Interval, intervals};
+use crate::intervals::{self, Taken};
+use crate::{Gtid, Interval};
 use shard_base::OutOfMemory;
 use std::alloc::{AllocError, Global};
 use std::marker::Model;
@@ -137,7 +138,9 @@ pub fn equal(a: &GtidSet, b: &GtidSet) -> bool
 pub fn union(alloc: Global, a: &GtidSet, b: &GtidSet) -> Result<GtidSet, OutOfMemory>
     ensures { IfOk result (λ set. set ≡ union a.now b.now) }
 {
-    let intervals = intervals::union(alloc, a.intervals.as_slice(), b.intervals.as_slice())?;
+    let first = a.intervals.as_slice();
+    let second = b.intervals.as_slice();
+    let intervals = intervals::combined(alloc, first, second, Taken::Either)?;
     Ok(GtidSet { intervals })
 }
 
@@ -145,6 +148,8 @@ pub fn union(alloc: Global, a: &GtidSet, b: &GtidSet) -> Result<GtidSet, OutOfMe
 pub fn minus(alloc: Global, a: &GtidSet, b: &GtidSet) -> Result<GtidSet, OutOfMemory>
     ensures { IfOk result (λ set. set ≡ minus a.now b.now) }
 {
-    let intervals = intervals::minus(alloc, a.intervals.as_slice(), b.intervals.as_slice())?;
+    let first = a.intervals.as_slice();
+    let second = b.intervals.as_slice();
+    let intervals = intervals::combined(alloc, first, second, Taken::FirstAlone)?;
     Ok(GtidSet { intervals })
 }

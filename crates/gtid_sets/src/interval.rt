@@ -1,6 +1,4 @@
 ghost use Rattle.std.specs.Prelude.{◌≡◌, ◌≤◌, ◌^◌};
-ghost use Rattle.std.specs.Ordering.{is_lt};
-ghost use Rattle.gtid_sets.specs.Gtid.{gtid_cmp};
 ghost use Rattle.gtid_sets.specs.Intervals.{start, size, holds, ends_below, touches, contains, stands_before, below, above, wide, joined};
 
 use crate::Gtid;
@@ -46,13 +44,6 @@ impl Interval {
             server: self.server,
             number: self.first,
         }
-    }
-
-    /// Whether it begins below another.
-    pub(crate) fn starts_before(&self, other: &Interval) -> bool
-        ensures { result ≡ is_lt (gtid_cmp (start self.now) (start other.now)) }
-    {
-        self.start().cmp(&other.start()).is_lt()
     }
 
     /// Whether it ends below a transaction and does not touch it.

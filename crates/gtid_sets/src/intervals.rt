@@ -1,12 +1,21 @@
 //! Lists of intervals in order, none touching another.
 
-ghost use Rattle.std.specs.Prelude.{◌≡◌, ◌↔◌, ◌||◌, ◌&&◌, not, true, false, ◌<◌, ◌≤◌, ◌^◌, length, get_or, ◌++◌, option_to_list, IsTrue, IfOk, OnOk, OnErr};
+ghost use Rattle.std.specs.Prelude.{◌≡◌, ◌↔◌, ◌||◌, true, false, ◌<◌, ◌≤◌, ◌^◌, length, get_or, option_to_list, IsTrue, IfOk, OnOk, OnErr};
 ghost use Rattle.std.specs.List.{prefix_len};
-ghost use Rattle.gtid_sets.specs.Intervals.{Ordered, StartsBy, StartsRise, Behind, HasWith, holds, within, total, start, ends_below, touches};
+ghost use Rattle.gtid_sets.specs.Intervals.{Ordered, StartsBy, StartsRise, Behind, HasWith, holds, within, total, start, ends_below, touches, below, takes};
 
 use crate::{Gtid, Interval};
 use shard_base::OutOfMemory;
 use std::alloc::Global;
+
+/// Which transactions of two lists are taken.
+#[derive(Clone, Copy)]
+pub(crate) enum Taken {
+    /// Those of either list.
+    Either,
+    /// Those of the first list that the second has not.
+    FirstAlone,
+}
 
 /// The list of an interval, or of none where it is empty.
 pub(crate) fn of_one(alloc: Global, interval: &Interval) -> Result<Vec<Interval>, OutOfMemory>
@@ -14,9 +23,7 @@ pub(crate) fn of_one(alloc: Global, interval: &Interval) -> Result<Vec<Interval>
     ensures members { IfOk result (λ xs. (g : Gtid) → within xs.items g ≡ holds interval.now g) }
 {
     let mut intervals = Vec::new(alloc);
-    if interval.first <= interval.last {
-        intervals.push(*interval)?;
-    }
+    append_some(&mut intervals, interval)?;
     Ok(intervals)
 }
 
@@ -29,21 +36,8 @@ pub(crate) fn of_all(
     ensures members { IfOk result (λ xs. (g : Gtid) → within xs.items g ≡ within intervals.old.items g) }
 {
     intervals.sort_by_key(|interval| interval.start())?;
-    of_rising(alloc, intervals.as_slice())
-}
-
-/// The list of intervals that are in order of their starts.
-fn of_rising(alloc: Global, intervals: &[Interval]) -> Result<Vec<Interval>, OutOfMemory>
-    requires { StartsRise intervals.now }
-    ensures in_order { IfOk result (λ xs. Ordered xs.items) }
-    ensures members { IfOk result (λ xs. (g : Gtid) → within xs.items g ≡ within intervals.now g) }
-{
     let mut all = Vec::new(alloc);
-    let mut left = intervals;
-    while let Some((next, rest)) = left.split_first() {
-        append_some(&mut all, next)?;
-        left = rest;
-    }
+    append_all(&mut all, intervals.as_slice())?;
     Ok(all)
 }
 
@@ -172,99 +166,121 @@ fn append(intervals: &mut Vec<Interval>, next: &Interval) -> Result<(), OutOfMem
     }
 }
 
-/// What is in either list.
-pub(crate) fn union(
-    alloc: Global,
-    a: &[Interval],
-    b: &[Interval],
-) -> Result<Vec<Interval>, OutOfMemory>
-    requires a { Ordered a.now }
-    requires b { Ordered b.now }
-    ensures in_order { IfOk result (λ xs. Ordered xs.items) }
-    ensures members { IfOk result (λ xs. (g : Gtid) → within xs.items g ≡ (within a.now g || within b.now g)) }
-{
-    let mut all = Vec::new(alloc);
-    let mut left = a;
-    let mut right = b;
-    while let Some((x, more_left)) = left.split_first() {
-        let Some((y, more_right)) = right.split_first() else {
-            append_all(&mut all, left)?;
-            return Ok(all);
-        };
-        if y.starts_before(x) {
-            append(&mut all, y)?;
-            right = more_right;
-        } else {
-            append(&mut all, x)?;
-            left = more_left;
-        }
-    }
-    append_all(&mut all, right)?;
-    Ok(all)
-}
-
-/// Puts intervals at the end, each joined to the last where they touch.
+/// Puts intervals in order of their starts at the end, each joined to the last where they touch. Empty ones are left out.
 fn append_all(intervals: &mut Vec<Interval>, more: &[Interval]) -> Result<(), OutOfMemory>
     requires in_order { Ordered intervals.old.items }
-    requires more { Ordered more.now }
+    requires rise { StartsRise more.now }
     requires behind { Behind intervals.old.items more.now }
     ensures in_order { OnOk result (Ordered intervals.new.items) }
     ensures members { OnOk result ((g : Gtid) → within intervals.new.items g ≡ (within intervals.old.items g || within more.now g)) }
 {
     let mut left = more;
     while let Some((next, rest)) = left.split_first() {
-        append(intervals, next)?;
+        append_some(intervals, next)?;
         left = rest;
     }
     Ok(())
 }
 
-/// What is in the first list and not in the second.
-pub(crate) fn minus(
+/// What is taken of two lists: the parts of the first that the second has not, and, where either is wanted, the second.
+pub(crate) fn combined(
     alloc: Global,
     a: &[Interval],
     b: &[Interval],
+    taken: Taken,
 ) -> Result<Vec<Interval>, OutOfMemory>
     requires a { Ordered a.now }
     requires b { Ordered b.now }
     ensures in_order { IfOk result (λ xs. Ordered xs.items) }
-    ensures members { IfOk result (λ xs. (g : Gtid) → within xs.items g ≡ (within a.now g && not (within b.now g))) }
+    ensures members { IfOk result (λ xs. (g : Gtid) → within xs.items g ≡ takes taken (within a.now g) (within b.now g)) }
 {
-    let mut kept = Vec::new(alloc);
-    let Some((first, rest)) = a.split_first() else {
-        return Ok(kept);
+    let mut all = Vec::new(alloc);
+    let Some((first, others)) = a.split_first() else {
+        append_second(&mut all, b, taken)?;
+        return Ok(all);
     };
     let mut x = *first;
-    let mut left = rest;
+    let mut left = others;
     let mut right = b;
     while let Some((y, later)) = right.split_first() {
-        push_some(&mut kept, x.below(y))?;
+        append_below(&mut all, &x, y)?;
         match x.above(y) {
             Some(part) => {
+                append_taken(&mut all, y, taken)?;
                 x = part;
                 right = later;
             }
             None => {
                 let Some((next, others)) = left.split_first() else {
-                    return Ok(kept);
+                    append_second(&mut all, right, taken)?;
+                    return Ok(all);
                 };
                 x = *next;
                 left = others;
             }
         }
     }
-    kept.push(x)?;
-    kept.extend_from_slice(left)?;
-    Ok(kept)
+    append(&mut all, &x)?;
+    append_all(&mut all, left)?;
+    Ok(all)
 }
 
-fn push_some(intervals: &mut Vec<Interval>, part: Option<Interval>) -> Result<(), OutOfMemory>
-    ensures { OnOk result (intervals.new.items ≡ intervals.old.items ++ option_to_list part) }
+/// Puts the part of an interval below another at the end.
+fn append_below(
+    intervals: &mut Vec<Interval>,
+    x: &Interval,
+    y: &Interval,
+) -> Result<(), OutOfMemory>
+    requires in_order { Ordered intervals.old.items }
+    requires some { x.now.first ≤ x.now.last }
+    requires behind { StartsBy (start x.now) intervals.old.items }
+    requires behind_other { StartsBy (start y.now) intervals.old.items }
+    ensures in_order { OnOk result (Ordered intervals.new.items) }
+    ensures members { OnOk result ((g : Gtid) → within intervals.new.items g ≡ (within intervals.old.items g || within (option_to_list (below x.now y.now)) g)) }
+    ensures behind { OnOk result (StartsBy (start x.now) intervals.new.items) }
+    ensures behind_other { OnOk result (StartsBy (start y.now) intervals.new.items) }
 {
-    if let Some(interval) = part {
-        intervals.push(interval)?;
+    match x.below(y) {
+        Some(part) => append(intervals, &part),
+        None => Ok(()),
     }
-    Ok(())
+}
+
+/// Puts an interval of the second list at the end, if it is taken.
+fn append_taken(
+    intervals: &mut Vec<Interval>,
+    next: &Interval,
+    taken: Taken,
+) -> Result<(), OutOfMemory>
+    requires in_order { Ordered intervals.old.items }
+    requires some { next.now.first ≤ next.now.last }
+    requires behind { StartsBy (start next.now) intervals.old.items }
+    ensures in_order { OnOk result (Ordered intervals.new.items) }
+    ensures members { OnOk result ((g : Gtid) → within intervals.new.items g ≡ (within intervals.old.items g || takes taken false (holds next.now g))) }
+    ensures behind { OnOk result (StartsBy (start next.now) intervals.new.items) }
+{
+    match taken {
+        Taken::Either => append(intervals, next),
+        Taken::FirstAlone => Ok(()),
+    }
+}
+
+/// Puts what is left of the second list at the end, if it is taken.
+fn append_second(
+    intervals: &mut Vec<Interval>,
+    more: &[Interval],
+    taken: Taken,
+) -> Result<(), OutOfMemory>
+    requires in_order { Ordered intervals.old.items }
+    requires more { Ordered more.now }
+    requires behind { Behind intervals.old.items more.now }
+    ensures in_order { OnOk result (Ordered intervals.new.items) }
+    ensures members { OnOk result ((g : Gtid) → within intervals.new.items g ≡ (within intervals.old.items g || takes taken false (within more.now g))) }
+{
+    match taken {
+        Taken::Either => append_all(intervals, more),
+        Taken::FirstAlone => Ok(()),
+    }
 }
 
 /// Whether the first list has all of the second.

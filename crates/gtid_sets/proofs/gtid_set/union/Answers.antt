@@ -5,5 +5,5 @@ use Rattle.gtid_sets.proofs.gtid_set.union.Goals as goal
 
 pub returns : goal.returns
 returns c =
-    set_union c.args.a.now c.args.b.now c.as_slice.result.now c.as_slice-2.result.now c.in_ok-intervals.intervals.items (ap position_of c.as_slice.ensures.value ∙ c.a.view_is) (ap position_of c.as_slice-2.ensures.value ∙ c.b.view_is)
+    set_union c.args.a.now c.args.b.now c.as_slice-first.result.now c.as_slice-second.result.now c.in_ok-intervals.intervals.items (ap position_of c.as_slice-first.ensures.value ∙ c.a.view_is) (ap position_of c.as_slice-second.ensures.value ∙ c.b.view_is)
     c.in_ok-intervals.ensures.members
