@@ -12,6 +12,7 @@ intends_found a (deeds.Took reply ∷ ds) = intends_found a ds
 intends_found a (deeds.Read reply ∷ ds) = intends_found a ds
 intends_found a (deeds.Intended b reply ∷ ds) = refl
 intends_found a (deeds.Recorded b reply ∷ ds) = intends_found a ds
+intends_found a (deeds.Drained b reply ∷ ds) = intends_found a ds
 intends_found a (deeds.Asked x ∷ ds) = intends_found a ds
 intends_found a (deeds.Wrote b reply ∷ ds) = intends_found a ds
 intends_found a (deeds.Told committed ∷ ds) = intends_found a ds

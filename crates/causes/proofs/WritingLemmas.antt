@@ -13,6 +13,7 @@ in_world w to s (answers.Promoted a t left) = refl
 in_world w to s (answers.NothingToDo a) = refl
 in_world w to s (answers.Recorded t) = refl
 in_world w to s (answers.Refused refusal tried) = refl
+in_world w to s (answers.Vtorc findings rest) = refl
 in_world w to s (answers.Committed g a t) = refl
 in_world w to s (answers.NotPrimary a at) = refl
 in_world w to s answers.NoPrimaryRecorded = refl

@@ -1,3 +1,4 @@
 pub mod Undoing
 pub mod Writing
 pub mod Emergency
+pub mod Watching

@@ -24,18 +24,14 @@ use spans::{
 };
 use std::alloc::Global;
 
-fn seen_refuses(options: &EmergencyOptions, refusal: &Refusal, seen: &Seen) -> bool
-    ensures { result ≡ is_this refusal.now (refusal_by_seen options.now.expected options.now.new_primary seen.now) }
-{
-    let found = refusal_by_seen(&options.expected, &options.new_primary, seen);
-    is_this(refusal, &found)
-}
-
 fn read_refuses(options: &EmergencyOptions, refusal: &Refusal, deed: &Deed) -> bool
     ensures { result ≡ read_passes (λ seen. is_this refusal.now (refusal_by_seen options.now.expected options.now.new_primary seen)) deed.now }
 {
     match deed {
-        Deed::Read { reply: Ok(seen) } => seen_refuses(options, refusal, seen),
+        Deed::Read { reply: Ok(seen) } => {
+            let found = refusal_by_seen(&options.expected, &options.new_primary, seen);
+            is_this(refusal, &found)
+        }
         _ => false,
     }
 }
@@ -269,7 +265,8 @@ fn any_refuses(
     Ok(refuses_late(span, refusal))
 }
 
-fn is_refused(
+/// Whether an `EmergencyReparentShard` with these options that did this is refused so.
+pub(crate) fn is_refused(
     alloc: Global,
     group: &Group,
     options: &EmergencyOptions,

@@ -171,25 +171,13 @@ fn any_records(alias: &Alias, span: &[Deed]) -> bool
 
 // ---- the causes
 
-fn is_undeclared(group: &Group, alias: &Alias, refusal: &Refusal) -> bool
-    ensures { result ≡ is_this refusal.now (refusal_of_undeclared group.now (Some alias.now)) }
-{
-    is_this(refusal, &refusal_of_undeclared(group, &Some(*alias)))
-}
-
 fn is_refused(group: &Group, alias: &Alias, span: &[Deed], refusal: &Refusal) -> bool
     ensures { result ≡ external_is_refused group.now alias.now span.now refusal.now }
 {
-    is_undeclared(group, alias, refusal)
+    is_this(refusal, &refusal_of_undeclared(group, &Some(*alias)))
         || topology_refuses(refusal, span)
         || call_refuses(Needed::Status, refusal, span)
         || any_read_refuses(alias, refusal, span)
-}
-
-fn has_refusal_cause(group: &Group, alias: &Alias, span: &[Deed], refusal: &Refusal) -> bool
-    ensures { result ≡ (is_want_of_memory refusal.now || external_is_refused group.now alias.now span.now refusal.now) }
-{
-    is_want_of_memory(refusal) || is_refused(group, alias, span, refusal)
 }
 
 /// Whether a `TabletExternallyReparented` of this tablet that did this may end with the answer. It takes no memory.
@@ -206,7 +194,8 @@ pub fn has_external_cause(
             any_read_shows(alias, *term, span) && any_records(alias, span)
         }
         CommandAnswer::Refused { refusal, undone } => {
-            undone.is_none() && has_refusal_cause(group, alias, span, refusal)
+            undone.is_none()
+                && (is_want_of_memory(refusal) || is_refused(group, alias, span, refusal))
         }
         _ => false,
     }

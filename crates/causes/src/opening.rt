@@ -3,20 +3,19 @@
 ghost use Rattle.std.specs.Prelude.{◌≡◌, ◌&&◌, ◌==◌, length, map};
 ghost use Rattle.std.specs.List.{list_any, list_all, zip};
 ghost use Rattle.shard_calls.specs.World.{World};
-ghost use Rattle.shard_calls.specs.Causes.{wrote_this, is_told_act, says_not_primary, showed, shown_type, declared_type, is_recorded_as, row_of, has_write_cause, has_show_cause, has_shard_cause, has_tablets_cause};
+ghost use Rattle.shard_calls.specs.Causes.{wrote_this, is_told_act, says_not_primary, showed, row_of, has_write_cause, has_show_cause, has_shard_cause, has_tablets_cause};
 ghost use Rattle.shard_calls.specs.Same.{rows_eq};
 ghost use Rattle.spans.specs.Lists.{same_row};
 ghost use Rattle.causes.specs.Writing.{stands_for, write_cause};
 
 use crate::planned::has_no_other_cause;
+use analysis::row_of;
 use gtid_sets::{Gtid, GtidSet};
-use refusals::is_among;
 use shard_calls::{
-    Act, CommandAnswer, CommandState, Group, Seen, Shown, ShownType, Standing, TabletRow, Wrote,
+    Act, CommandAnswer, CommandState, Group, Seen, Shown, Standing, TabletRow, Wrote,
 };
-use shard_names::{Alias, ShardName, Tablet, TabletType};
+use shard_names::{Alias, ShardName, Tablet};
 use spans::{position_eq, record_or_none_eq, same_row, shard_name_eq, standing_eq};
-use topo_lock::Record;
 
 // ---- of a write
 
@@ -144,49 +143,6 @@ pub fn has_shard_cause(shard: &ShardName, state: &CommandState, answer: &Command
         }
         CommandAnswer::Refused { refusal, undone } => has_no_other_cause(refusal, undone),
         _ => false,
-    }
-}
-
-fn declared_type(kind: TabletType) -> ShownType
-    ensures { result ≡ declared_type kind }
-{
-    match kind {
-        TabletType::Replica => ShownType::Replica,
-        TabletType::Rdonly => ShownType::Rdonly,
-        TabletType::Spare => ShownType::Spare,
-    }
-}
-
-fn is_recorded_as(alias: &Alias, recorded: &Option<Record>) -> bool
-    ensures { result ≡ is_recorded_as alias.now recorded.now }
-{
-    match recorded {
-        Some(recorded) => recorded.alias == *alias,
-        None => false,
-    }
-}
-
-fn shown_type(seen: &Seen, tablet: &Tablet) -> ShownType
-    ensures { result ≡ shown_type seen.now tablet.now }
-{
-    if is_recorded_as(&tablet.alias, &seen.recorded) {
-        return ShownType::Primary;
-    }
-    if is_among(seen.drained.as_slice(), &tablet.alias) {
-        return ShownType::Drained;
-    }
-    declared_type(tablet.kind)
-}
-
-/// A tablet as `GetTablets` shows it where this was read: as the primary by the record, or else as drained by the marks, or else as it is
-/// declared.
-pub fn row_of(seen: &Seen, tablet: &Tablet) -> TabletRow
-    ensures { result ≡ row_of seen.now tablet.now }
-{
-    TabletRow {
-        alias: tablet.alias,
-        server: tablet.server,
-        kind: shown_type(seen, tablet),
     }
 }
 

@@ -34,17 +34,13 @@ pub(crate) fn is_err_of(refusal: &Refusal, chosen: &Result<Alias, Refusal>) -> b
 
 // ---- by what the old primary was told
 
-fn answer_refuses(intent: &Intent, refusal: &Refusal, answer: &Answer) -> bool
-    ensures { result ≡ demoted_refuses intent.now refusal.now answer.now }
-{
-    is_this(refusal, &refusal_by_demoted(intent, answer))
-}
-
 fn demoted_refuses(intent: &Intent, refusal: &Refusal, outcome: &Option<Outcome>) -> bool
     ensures { result ≡ outcome_passes (demoted_refuses intent.now refusal.now) outcome.now }
 {
     match outcome {
-        Some(Outcome::Answered { answer }) => answer_refuses(intent, refusal, answer),
+        Some(Outcome::Answered { answer }) => {
+            is_this(refusal, &refusal_by_demoted(intent, answer))
+        }
         _ => false,
     }
 }
@@ -238,12 +234,6 @@ fn any_read_refuses(
 
 // ---- the causes
 
-fn at_once(group: &Group, options: &PlannedOptions, refusal: &Refusal, span: &[Deed]) -> bool
-    ensures { result ≡ (is_this refusal.now (refusal_of_planned group.now options.now) || topology_refuses refusal.now span.now) }
-{
-    is_this(refusal, &refusal_of_planned(group, options)) || topology_refuses(refusal, span)
-}
-
 fn planned_refuses(
     alloc: Global,
     group: &Group,
@@ -253,7 +243,10 @@ fn planned_refuses(
 ) -> Result<bool, OutOfMemory>
     ensures { IfOk result (λ b. b ≡ planned_refuses group.now options.now span.now refusal.now) }
 {
-    if at_once(group, options, refusal, span) {
+    if is_this(refusal, &refusal_of_planned(group, options)) {
+        return Ok(true);
+    }
+    if topology_refuses(refusal, span) {
         return Ok(true);
     }
     if any_read_refuses(alloc, group, options, refusal, span)? {
@@ -262,7 +255,8 @@ fn planned_refuses(
     Ok(call_refuses(Needed::Planned, refusal, span))
 }
 
-fn is_refused(
+/// Whether a `PlannedReparentShard` with these options that did this is refused so.
+pub(crate) fn is_refused(
     alloc: Global,
     group: &Group,
     options: &PlannedOptions,

@@ -89,19 +89,13 @@ fn same_answer(b: bool, c: bool) -> bool
     if b { c } else { !c }
 }
 
-fn undone_so(old: &Alias, undone: bool, span: &[Deed]) -> bool
-    ensures { result ≡ same_answer (is_promoted_again old.now span.now) undone }
-{
-    same_answer(is_promoted_again(old, span), undone)
-}
-
 fn undo_refuses(span: &[Deed], refusal: &Refusal, undone: bool, seen: &Seen) -> bool
     ensures { result ≡ undo_refuses span.now refusal.now undone seen.now }
 {
     match &seen.intent {
         Some(intent) => {
             undoes(&intent.alias, span)
-                && undone_so(&intent.alias, undone, span)
+                && same_answer(is_promoted_again(&intent.alias, span), undone)
                 && call_refuses(Needed::CatchingUp, refusal, before_intent(span))
         }
         None => false,

@@ -6,8 +6,8 @@ use Rattle.shard_names.specs.declared.alias.Alias.{Alias}
 use Rattle.shard_names.specs.declared.tablet.Tablet.{Tablet}
 use Rattle.shard_names.specs.Tablets.{tablet_of}
 use Rattle.gtid_sets.specs.declared.entry.Entry.{Entry}
-use Rattle.topo_lock.specs.Topology.{Topology, is_held, is_held_in, adds_intent, after_take, after_intend, after_record, after_release}
-use Rattle.topo_lock.specs.Moves.{TopoMove, Takes, Intends, Records, Releases, Lapses, Stays}
+use Rattle.topo_lock.specs.Topology.{Topology, is_held, is_held_in, adds_intent, after_take, after_intend, after_record, after_drain, after_release}
+use Rattle.topo_lock.specs.Moves.{TopoMove, Takes, Intends, Records, Drains, Releases, Lapses, Stays}
 use Rattle.topo_lock.specs.declared.lock.Holder.{Holder}
 use Rattle.shard_calls.specs.declared.command.Command.{Command}
 use Rattle.shard_calls.specs.declared.command.Command.TheVariants as commands
@@ -26,7 +26,7 @@ use Rattle.shard_calls.specs.Tablets.{TabletState}
 use Rattle.shard_calls.specs.World.{Config, World, opening, changed, changed_at, idle_actor, numbered, on_message, arrives, open_command, place_of, term_of}
 use Rattle.shard_calls.specs.Messages.{why_given_up, offer_to}
 use Rattle.shard_calls.specs.Begins.{begins, begun_state, client_of, closes, joined_at, opens, with_actor, writes_by, ends_by}
-use Rattle.shard_calls.specs.Locks.{takes_by, by_term, reads, intends_in, records_in, releases_in}
+use Rattle.shard_calls.specs.Locks.{takes_by, by_term, reads, intends_in, records_in, drains_in, releases_in}
 use Rattle.shard_calls.specs.Deliveries.{after_delivery, after_arrival, asked, fed, feed_verdict, if_declared, gives_up, offers}
 use Rattle.shard_calls.specs.Writes.{writes_in, writes_at, tell_of, told_act, with_told}
 use Rattle.shard_calls.specs.Table.{change}
@@ -58,6 +58,7 @@ writes_one : (command : Command) → writes_by command ≤ 1
 writes_one (commands.Planned shard new_primary avoid expected timeout allow_cross_cell) = omega arith
 writes_one (commands.Emergency shard new_primary ignored expected timeout prevent_cross_cell) = omega arith
 writes_one (commands.External a) = omega arith
+writes_one commands.Vtorc = omega arith
 writes_one (commands.Write to) = omega arith
 writes_one (commands.Show a) = omega arith
 writes_one (commands.GetShard shard) = omega arith
@@ -170,6 +171,7 @@ people_after n config w (events.Take c) h = more_people n w _ h (people_take w c
 people_after n config w (events.Read c) h = more_people n w _ h (people_by w (reads w c) (term_of w c) (λ t. (refl, length_changed_at w.commands c _)))
 people_after n config w (events.Intend c a) h = more_people n w _ h (people_by w (intends_in w c a) (term_of w c) (λ t. (refl, length_changed_at w.commands c _)))
 people_after n config w (events.Record c a) h = more_people n w _ h (people_by w (records_in w c a) (term_of w c) (λ t. (refl, length_changed_at w.commands c _)))
+people_after n config w (events.Drain c a) h = more_people n w _ h (people_by w (drains_in w c a) (term_of w c) (λ t. (refl, length_changed_at w.commands c _)))
 people_after n config w (events.Release c) h = more_people n w _ h (people_by w (releases_in w c) (term_of w c) (λ t. (refl, length_changed_at w.commands c _)))
 people_after n config w events.Lapse h = more_people n w _ h (refl, refl)
 people_after n config w (events.Send c a call) h = more_people n w _ h (refl, length_changed_at w.commands c _)
@@ -201,6 +203,10 @@ record_term : (t : Topology) (u moment : ℕ) (b : Bool) → is_held_in t u ≡ 
 record_term t u moment true is = rw is (omega arith)
 record_term t u moment false is = rw is (omega arith)
 
+drain_term : (t : Topology) (u : ℕ) (a : Alias) (b : Bool) → is_held_in t u ≡ b → (after_drain t u a).term ≤ t.term + 1
+drain_term t u a true is = rw is (omega arith)
+drain_term t u a false is = rw is (omega arith)
+
 release_term : (t : Topology) (u : ℕ) (b : Bool) → is_held_in t u ≡ b → (after_release t u).term ≤ t.term + 1
 release_term t u true is = rw is (omega arith)
 release_term t u false is = rw is (omega arith)
@@ -209,6 +215,7 @@ move_term : (s t : Topology) → TopoMove s t → t.term ≤ s.term + 1
 move_term s _ (Takes holder) = take_term s holder _ refl
 move_term s _ (Intends term alias) = intend_term s term alias _ refl
 move_term s _ (Records term moment) = record_term s term moment _ refl
+move_term s _ (Drains term alias) = drain_term s term alias _ refl
 move_term s _ (Releases term) = release_term s term _ refl
 move_term s _ Lapses = omega arith
 move_term s _ Stays = omega arith

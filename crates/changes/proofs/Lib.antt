@@ -5,5 +5,6 @@ pub mod WriteLemmas
 pub mod DeliverLemmas
 pub mod OfferLemmas
 pub mod FewLaws
+pub mod MarkLaws
 pub mod SoundLaws
 pub mod PastLaws

@@ -19,7 +19,7 @@ use Rattle.shard_calls.specs.Tablets.{TabletState}
 use Rattle.shard_calls.specs.World.{Config, World, numbered, on_message, arrives, open_command, term_of}
 use Rattle.shard_calls.specs.Messages.{why_given_up, offer_to}
 use Rattle.shard_calls.specs.Begins.{ends_by}
-use Rattle.shard_calls.specs.Locks.{takes_by, by_term, reads, intends_in, records_in, releases_in}
+use Rattle.shard_calls.specs.Locks.{takes_by, by_term, reads, intends_in, records_in, drains_in, releases_in}
 use Rattle.shard_calls.specs.Deliveries.{after_delivery, after_arrival, asked, fed, feed_verdict, if_declared, gives_up, offers}
 use Rattle.shard_calls.specs.Writes.{writes_in, writes_at, tell_of, told_act, with_told}
 use Rattle.shard_calls.specs.Table.{meets, answer, change}
@@ -31,6 +31,7 @@ same_meets config w ss (events.Take c) = refl
 same_meets config w ss (events.Read c) = refl
 same_meets config w ss (events.Intend c a) = refl
 same_meets config w ss (events.Record c a) = refl
+same_meets config w ss (events.Drain c a) = refl
 same_meets config w ss (events.Release c) = refl
 same_meets config w ss events.Lapse = refl
 same_meets config w ss (events.Send c a call) = refl
@@ -54,6 +55,7 @@ same_answer config w ss (events.Take c) = refl
 same_answer config w ss (events.Read c) = refl
 same_answer config w ss (events.Intend c a) = refl
 same_answer config w ss (events.Record c a) = refl
+same_answer config w ss (events.Drain c a) = refl
 same_answer config w ss (events.Release c) = refl
 same_answer config w ss events.Lapse = refl
 same_answer config w ss (events.Send c a call) = refl
@@ -130,6 +132,7 @@ same_change config w ss (events.Take c) ts = past_take w ss c (open_command w c)
 same_change config w ss (events.Read c) ts = past_by (with_past w ss) w (reads (with_past w ss) c) (reads w c) (term_of w c) (λ xs. refl) (λ t xs. refl) ts
 same_change config w ss (events.Intend c a) ts = past_by (with_past w ss) w (intends_in (with_past w ss) c a) (intends_in w c a) (term_of w c) (λ xs. refl) (λ t xs. refl) ts
 same_change config w ss (events.Record c a) ts = past_by (with_past w ss) w (records_in (with_past w ss) c a) (records_in w c a) (term_of w c) (λ xs. refl) (λ t xs. refl) ts
+same_change config w ss (events.Drain c a) ts = past_by (with_past w ss) w (drains_in (with_past w ss) c a) (drains_in w c a) (term_of w c) (λ xs. refl) (λ t xs. refl) ts
 same_change config w ss (events.Release c) ts = past_by (with_past w ss) w (releases_in (with_past w ss) c) (releases_in w c) (term_of w c) (λ xs. refl) (λ t xs. refl) ts
 same_change config w ss events.Lapse ts = refl
 same_change config w ss (events.Send c a call) ts = refl

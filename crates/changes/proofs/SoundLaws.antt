@@ -1,11 +1,11 @@
 -- Messages stay such as their receivers can take.
-use Rattle.std.proofs.Common.{◌≡◌, ℕ, zero, suc, ◌+◌, ◌≤◌, ◌==◌, inl, inr, List, [], Bool, true, false, not, ◌&&◌, ◌||◌, nat_lt, nat_le, cond, Option, Some, None, unwrap_or, map, refl, ap, sym, subst, ◌∙◌, arith}
+use Rattle.std.proofs.Common.{◌≡◌, ℕ, zero, suc, ◌+◌, ◌≤◌, ◌==◌, inl, inr, List, [], Bool, true, false, not, ◌&&◌, ◌||◌, nat_lt, nat_le, cond, Option, Some, None, unwrap_or, map, length, refl, ap, sym, subst, ◌∙◌, arith}
 use Rattle.std.specs.List.{AllByRecursion}
 use Rattle.std.proofs.lemmas.Bool.{false≢true}
 use Rattle.std.proofs.lemmas.Bool.Decides.{nat_tests}
 use Rattle.shard_names.specs.declared.alias.Alias.{Alias}
 use Rattle.shard_names.specs.declared.tablet.Tablet.{Tablet}
-use Rattle.shard_names.specs.Tablets.{alias_eq, is_declared}
+use Rattle.shard_names.specs.Tablets.{alias_eq, is_declared, AliasesRise}
 use Rattle.shard_names.proofs.TabletLemmas.{both_left, both_right}
 use Rattle.gtid_sets.specs.Position.{covers}
 use Rattle.gtid_sets.specs.declared.entry.Kind.TheVariants as kinds
@@ -36,6 +36,7 @@ use Rattle.shard_calls.proofs.TouchLemmas.{Touched, Untouched, Called, Fed, Hear
 use Rattle.shard_state.specs.State.{Data, group_in, groups_in, tablets_of}
 use Rattle.changes.specs.Sound.{FitsCall, NamesSource, IsSoundContent, HasSource, AreSound, Fits}
 use Rattle.changes.specs.Makes.{Makes}
+use Rattle.changes.proofs.MarkLaws.{marks_after}
 use Rattle.changes.proofs.OfferLemmas.{offered}
 
 -- ---- what is sent
@@ -167,13 +168,17 @@ touched_source config w a _ _ sound Restarted =
 -- ---- both
 
 pub sound_after : (config : Config) (w : World) (e : Event) → Met config w e → AreSound config w → AreSound config (change config w e)
-sound_after config w e met sound = record {
-  post = λ k m here. sound_content config w e k m met sound (post_cases config w e k m here);
-  sources = λ a. touched_source config w a e _ sound (touched config w e a);
-}
+sound_after config w e met sound =
+    let marks = marks_after config w e met (record { declared = sound.marks; rise = sound.rise }) in
+    record {
+      post = λ k m here. sound_content config w e k m met sound (post_cases config w e k m here);
+      sources = λ a. touched_source config w a e _ sound (touched config w e a);
+      marks = marks.declared;
+      rise = marks.rise;
+    }
 
 pub sound_opening : (config : Config) → AreSound config (opening config)
-sound_opening config = record { post = none; sources = λ a. tt }
+sound_opening config = record { post = none; sources = λ a. tt; marks = refl; rise = tt }
   where
     none : (k : ℕ) (m : Message) → numbered [] k ≡ Some m → IsSoundContent config m.content
     none zero m at = absurd (let none : None ≡ Some m = at in cc)
@@ -186,6 +191,8 @@ fits_after old new e reply made fits =
     let tablets : tablets_of new.managers ≡ tablets_of old.managers = ap (λ (c : Config). c.tablets) made.config in
     record {
       aliases = made.aliases ∙ fits.aliases ∙ sym (ap (λ (ts : List Tablet). map (λ t. t.alias) ts) tablets);
+      order = subst (λ (ts : List Tablet). AliasesRise ts) (sym tablets) fits.order;
+      marks = made.marks ∙ fits.marks ∙ sym (ap (λ (ts : List Tablet). length ts) tablets);
       group = subst (λ (gs : List Group). AllByRecursion (λ g. g ≡ group_in new) gs) (sym made.groups)
           (subst (λ (c : Config). AllByRecursion (λ g. g ≡ group_of c) (groups_in old.managers)) (sym made.config) fits.group);
     }

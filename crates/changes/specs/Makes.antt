@@ -17,6 +17,7 @@ use Rattle.changes.specs.declared.found.Found.{Found}
 pub record Makes (old new : Data) (e : Event) (said : Reply) : Type 0 where
   pub config : config_in new ≡ config_in old
   pub aliases : new.aliases ≡ old.aliases
+  pub marks : new.marks ≡ old.marks
   pub groups : groups_in new.managers ≡ groups_in old.managers
   pub world : seen new ≡ change (config_in old) (seen old) e
   pub reply : said ≡ answer (config_in old) (seen old) e
@@ -28,6 +29,7 @@ IsFound w (events.Take c) f = ⊤
 IsFound w (events.Read c) f = ⊤
 IsFound w (events.Intend c a) f = ⊤
 IsFound w (events.Record c a) f = ⊤
+IsFound w (events.Drain c a) f = ⊤
 IsFound w (events.Release c) f = ⊤
 IsFound w events.Lapse f = ⊤
 IsFound w (events.Send c a call) f = ⊤
@@ -52,6 +54,7 @@ takes_no_memory (events.Take c) = false
 takes_no_memory (events.Read c) = false
 takes_no_memory (events.Intend c a) = false
 takes_no_memory (events.Record c a) = false
+takes_no_memory (events.Drain c a) = false
 takes_no_memory (events.Release c) = true
 takes_no_memory events.Lapse = true
 takes_no_memory (events.Send c a call) = false

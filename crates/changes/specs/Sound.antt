@@ -1,7 +1,10 @@
--- Messages that their receivers can take: between declared tablets, and calls that can be made of their tablet. And tablets that know their shard.
-use Rattle.std.specs.Prelude.{◌≡◌, ◌≤◌, ℕ, true, false, Some, map, ⊤}
+-- Messages that their receivers can take: between declared tablets, and calls that can be made of their tablet. Marks of declared tablets, for which
+-- there is room. And tablets that know their shard.
+use Rattle.std.specs.Prelude.{◌≡◌, ◌<◌, ◌≤◌, ◌⊎◌, ℕ, true, false, Some, length, map, ⊤}
+use Rattle.std.specs.List.{list_all}
 use Rattle.shard_names.specs.declared.alias.Alias.{Alias}
-use Rattle.shard_names.specs.Tablets.{alias_eq, is_declared}
+use Rattle.shard_names.specs.Tablets.{alias_eq, is_among, is_declared, AliasesRise}
+use Rattle.topo_lock.specs.Laws.{MarksRise}
 use Rattle.shard_calls.specs.declared.call.Call.{Call}
 use Rattle.shard_calls.specs.declared.call.Call.TheVariants as calls
 use Rattle.shard_calls.specs.declared.post.Content.{Content}
@@ -52,8 +55,17 @@ HasSource config (stands.Feeder t) = ⊤
 pub record AreSound (config : Config) (w : World) : Type 0 where
   pub post : (k : ℕ) (m : Message) → numbered w.post k ≡ Some m → IsSoundContent config m.content
   pub sources : (a : Alias) → HasSource config (w.tablets a).stand
+  -- the marks are of declared tablets, in alias order
+  pub marks : list_all (is_declared config.tablets) w.topo.drained ≡ true
+  pub rise : MarksRise w.topo.drained
 
--- the post knows the tablets, and each tablet knows the shard as it is kept
+-- a tablet is marked, or there is room for one mark more
+abbrev pub HasRoomForMark : Data → Alias → Type 0
+HasRoomForMark d a = (is_among d.topo.drained a ≡ true) ⊎ (length d.topo.drained < d.marks)
+
+-- the post knows the tablets, which are in alias order, there is room for a mark of each, and each tablet knows the shard as it is kept
 pub record Fits (d : Data) : Type 0 where
   pub aliases : d.aliases ≡ map (λ t. t.alias) (tablets_of d.managers)
+  pub order : AliasesRise (tablets_of d.managers)
+  pub marks : d.marks ≡ length (tablets_of d.managers)
   pub group : AreOfGroup d

@@ -181,6 +181,7 @@ pub(crate) fn count_write(writes: u64, command: &Command) -> u64
         Command::Planned { .. } => writes,
         Command::Emergency { .. } => writes,
         Command::External { .. } => writes,
+        Command::Vtorc => writes,
         Command::Write { .. } => writes + 1,
         Command::Show { .. } => writes,
         Command::GetShard { .. } => writes,

@@ -72,6 +72,7 @@ fn shown_by(fields: &Fields, command: &Command) -> Result<Option<Shown>, OutOfMe
         Command::Planned { .. } => Ok(None),
         Command::Emergency { .. } => Ok(None),
         Command::External { .. } => Ok(None),
+        Command::Vtorc => Ok(None),
         Command::Write { .. } => Ok(None),
         Command::Show { alias } => {
             let shown = show(&fields.managers, alias)?;

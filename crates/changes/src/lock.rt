@@ -2,13 +2,14 @@ ghost use Rattle.std.specs.Prelude.{◌≡◌, ◌<◌, ◌-◌, ◌^◌, true, 
 ghost use Rattle.std.specs.Option.{option_copied};
 ghost use Rattle.topo_lock.specs.Topology.{is_held_in, intent_of, answer_take, answer_intend, after_release};
 ghost use Rattle.shard_calls.specs.World.{changed_at, with_act};
-ghost use Rattle.shard_calls.specs.Locks.{by_term, intended_act, recorded_act, seen_of, topo_reply};
+ghost use Rattle.shard_calls.specs.Locks.{by_term, drained_act, intended_act, recorded_act, seen_of, topo_reply};
 ghost use Rattle.shard_calls.specs.Table.{meets};
 ghost use Rattle.shard_calls.specs.declared.state.Act.TheVariants as acts;
 ghost use Rattle.shard_calls.specs.declared.event.Event.TheVariants as events;
 ghost use Rattle.shard_calls.specs.declared.event.Reply.TheVariants as replies;
 ghost use Rattle.shard_state.specs.State.{data_of, config_in, seen};
 ghost use Rattle.changes.specs.Makes.{Makes};
+ghost use Rattle.changes.specs.Sound.{HasRoomForMark};
 
 use crate::acts::{act, act_if, note_taken, set_released};
 use shard_base::{Items, OutOfMemory};
@@ -153,6 +154,23 @@ fn recorded_act(alias: &Alias, answer: &Result<(), TopoFault>) -> Option<Act>
     }
 }
 
+/// What the command keeps of the answer to its Drain.
+fn drained_act(alias: &Alias, answer: &Result<(), TopoFault>) -> Option<Act>
+    ensures { result ≡ drained_act alias.now answer.now }
+{
+    match answer {
+        Ok(()) => Some(Act::Drained {
+            alias: *alias,
+            reply: Ok(()),
+        }),
+        Err(TopoFault::LockLost { current }) => Some(Act::Drained {
+            alias: *alias,
+            reply: Err(*current),
+        }),
+        Err(TopoFault::IntentStands { .. }) => None,
+    }
+}
+
 /// Intends the tablet in the command's term.
 pub(crate) fn intend(fields: &mut Fields, command: u64, alias: &Alias) -> Result<Reply, OutOfMemory>
     requires met { meets (config_in (data_of fields.old)) (seen (data_of fields.old)) (events.Intend command alias.now) ≡ true }
@@ -191,9 +209,27 @@ pub(crate) fn set_record(
     Ok(topo_reply(&answer))
 }
 
+/// Marks the tablet as drained, for which there is room. What the command keeps of it is all that takes memory.
+pub(crate) fn drain(fields: &mut Fields, command: u64, alias: &Alias) -> Result<Reply, OutOfMemory>
+    requires met { meets (config_in (data_of fields.old)) (seen (data_of fields.old)) (events.Drain command alias.now) ≡ true }
+    requires room { HasRoomForMark (data_of fields.old) alias.now }
+    ensures made { IfOk result (λ reply. Makes (data_of fields.old) (data_of fields.new) (events.Drain command alias.now) reply) }
+    ensures err { OnErr result (data_of fields.new ≡ data_of fields.old) }
+{
+    let term = match term_of(&fields.commands, command) {
+        Some(term) => term,
+        None => unreachable!(),
+    };
+    let answer = fields.topo.check_lock(term);
+    act_if(&mut fields.commands, command, drained_act(alias, &answer))?;
+    let _answered = fields.topo.drain(term, alias);
+    Ok(topo_reply(&answer))
+}
+
 /// Frees the lock, if it is held in this term.
 fn free(topo: &mut Topo, term: Option<u64>)
-    ensures { topo.new.topology ≡ by_term term topo.old.topology (after_release topo.old.topology) }
+    ensures leaves { topo.new.topology ≡ by_term term topo.old.topology (after_release topo.old.topology) }
+    ensures marks { topo.new.marks ≡ topo.old.marks }
 {
     if let Some(term) = term {
         topo.release(term);

@@ -9,7 +9,7 @@ use crate::beginning::{begin, end};
 use crate::calls::{offer, send, tell};
 use crate::delivery::deliver;
 use crate::found::Found;
-use crate::lock::{intend, lapse, read, release, set_record, take};
+use crate::lock::{drain, intend, lapse, read, release, set_record, take};
 use crate::network::{cut, give_up, lose, mend, tick};
 use crate::writes::{crash, restart, write, write_local};
 use shard_base::OutOfMemory;
@@ -35,6 +35,7 @@ pub fn change(fields: &mut Fields, event: &Event, found: &mut Found) -> Result<R
         Event::Read { command } => read(fields, *command),
         Event::Intend { command, alias } => intend(fields, *command, alias),
         Event::Record { command, alias } => set_record(fields, *command, alias),
+        Event::Drain { command, alias } => drain(fields, *command, alias),
         Event::Release { command } => Ok(release(fields, *command)),
         Event::Lapse => Ok(lapse(fields)),
         Event::Send {

@@ -24,6 +24,7 @@ settle h (deeds.Took reply) = deeds.Took reply
 settle h (deeds.Read reply) = deeds.Read reply
 settle h (deeds.Intended a reply) = deeds.Intended a reply
 settle h (deeds.Recorded a reply) = deeds.Recorded a reply
+settle h (deeds.Drained a reply) = deeds.Drained a reply
 settle h (deeds.Wrote a reply) = deeds.Wrote a reply
 settle h (deeds.Told committed) = deeds.Told committed
 

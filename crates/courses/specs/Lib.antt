@@ -16,6 +16,5 @@ pub mod EmergencyLaws
 pub mod CourseLaws
 pub mod ExternalLaws
 pub mod WritingLaws
-pub mod CommandLaws
 pub mod Examples
 pub mod EmergencyExamples

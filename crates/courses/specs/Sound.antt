@@ -71,6 +71,12 @@ pub record IsRecorded (span : List Deed) (c : Alias) : Type 0 where
   pub deed : IsIn span (deeds.Recorded alias (Ok tt))
   pub same : alias_eq alias c ≡ true
 
+-- the tablet is marked as drained
+pub record IsDrained (span : List Deed) (c : Alias) : Type 0 where
+  pub alias : Alias
+  pub deed : IsIn span (deeds.Drained alias (Ok tt))
+  pub same : alias_eq alias c ≡ true
+
 -- the tablet was to write, with this reply
 pub record IsWritten (span : List Deed) (a : Alias) (reply : Result Transaction Standing) : Type 0 where
   pub alias : Alias
@@ -83,6 +89,13 @@ pub record IsSaid (span : List Deed) (a : Alias) (kind : Kind) (answer : Answer)
   pub deed : IsIn span (deeds.Asked call_of)
   pub is_call : is_ask a kind call_of ≡ true
   pub says : call_of.outcome ≡ Some (outcomes.Answered answer)
+
+-- the tablet was called so, and the call came to this
+pub record IsSettled (span : List Deed) (a : Alias) (kind : Kind) (outcome : Outcome) : Type 0 where
+  pub call_of : Asked
+  pub deed : IsIn span (deeds.Asked call_of)
+  pub is_call : is_ask a kind call_of ≡ true
+  pub came : call_of.outcome ≡ Some outcome
 
 -- the tablet was called so, and by the table the command is refused for what that came to
 pub record IsRefusedCall (span : List Deed) (a : Alias) (kind : Kind) (r : Refusal) : Type 0 where

@@ -24,8 +24,8 @@ use Rattle.courses.specs.declared.want.Want.{Want}
 use Rattle.courses.specs.declared.want.Want.TheVariants as wants
 use Rattle.shard_calls.specs.Refusals.{refusal_after, refusal_by_topology}
 use Rattle.shard_calls.specs.Kinds.{kind_of}
-use Rattle.courses.specs.Walks.{Course, walked, unless, or_refusing, goes_on, ◌>>=◌, ◌>>◌, tried, trying, next, took, read, keeping_lock, intended, recorded, wrote, told, takes_lock, reads, intends, records, writes, tells, is_ask, settling, needing, needs, called_all, calling, asks_all, all_settled, is_out, calls_all}
-use Rattle.courses.specs.Sound.{IsIn, IsPart, IsEnd, IsTaken, IsRead, IsIntended, IsRecorded, IsWritten, IsSaid, IsRefusedCall, are_calls, AreCalled, IsBarred, CallIsFounded, IsFounded, Comes, IsSound}
+use Rattle.courses.specs.Walks.{Course, walked, unless, or_refusing, goes_on, ◌>>=◌, ◌>>◌, tried, trying, next, took, read, keeping_lock, intended, recorded, drained, wrote, told, takes_lock, reads, intends, records, drains, writes, tells, is_ask, settling, calls_once, needing, needs, called_all, calling, asks_all, all_settled, is_out, calls_all}
+use Rattle.courses.specs.Sound.{IsIn, IsPart, IsEnd, IsTaken, IsRead, IsIntended, IsRecorded, IsDrained, IsWritten, IsSaid, IsSettled, IsRefusedCall, are_calls, AreCalled, IsBarred, CallIsFounded, IsFounded, Comes, IsSound}
 
 -- ---- how courses are put together
 
@@ -145,6 +145,7 @@ intended_sound g span R a (deeds.Intended b reply) bars is =
 intended_sound g span R a (deeds.Took reply) bars is = λ rest end. tt
 intended_sound g span R a (deeds.Read reply) bars is = λ rest end. tt
 intended_sound g span R a (deeds.Recorded b reply) bars is = λ rest end. tt
+intended_sound g span R a (deeds.Drained b reply) bars is = λ rest end. tt
 intended_sound g span R a (deeds.Asked x) bars is = λ rest end. tt
 intended_sound g span R a (deeds.Wrote b reply) bars is = λ rest end. tt
 intended_sound g span R a (deeds.Told committed) bars is = λ rest end. tt
@@ -156,9 +157,22 @@ recorded_sound g span R a (deeds.Recorded b reply) bars is =
 recorded_sound g span R a (deeds.Took reply) bars is = λ rest end. tt
 recorded_sound g span R a (deeds.Read reply) bars is = λ rest end. tt
 recorded_sound g span R a (deeds.Intended b reply) bars is = λ rest end. tt
+recorded_sound g span R a (deeds.Drained b reply) bars is = λ rest end. tt
 recorded_sound g span R a (deeds.Asked x) bars is = λ rest end. tt
 recorded_sound g span R a (deeds.Wrote b reply) bars is = λ rest end. tt
 recorded_sound g span R a (deeds.Told committed) bars is = λ rest end. tt
+
+drained_sound : (g : Group) (span : List Deed) (R : Refusal → Type 0) (a : Alias) (d : Deed) → Bars span R → IsIn span d → IsSound g span R (walked (drained a d)) (λ x. IsDrained span a)
+drained_sound g span R a (deeds.Drained b reply) bars is =
+    replied_sound g span R (IsDrained span a) reply (alias_eq b a) (λ ok same. record { alias = b; deed = subst (λ r. IsIn span (deeds.Drained b r)) ok is; same = same })
+    (λ t lost. bars _ (record { deed = deeds.Drained b reply; stands = is; refused = ap (λ r. refusal_by_topology (deeds.Drained b r)) lost }))
+drained_sound g span R a (deeds.Took reply) bars is = λ rest end. tt
+drained_sound g span R a (deeds.Read reply) bars is = λ rest end. tt
+drained_sound g span R a (deeds.Intended b reply) bars is = λ rest end. tt
+drained_sound g span R a (deeds.Recorded b reply) bars is = λ rest end. tt
+drained_sound g span R a (deeds.Asked x) bars is = λ rest end. tt
+drained_sound g span R a (deeds.Wrote b reply) bars is = λ rest end. tt
+drained_sound g span R a (deeds.Told committed) bars is = λ rest end. tt
 
 written_at : (g : Group) (span : List Deed) (R : Refusal → Type 0) (a b : Alias) (reply : Result Transaction Standing) (same : Bool) → alias_eq b a ≡ same → IsIn span (deeds.Wrote b reply)
     → IsSound g span R (walked (cond same (Ok reply) (Err exits.Strays))) (λ x. IsWritten span a x)
@@ -171,6 +185,7 @@ wrote_sound g span R a (deeds.Took reply) is = λ rest end. tt
 wrote_sound g span R a (deeds.Read reply) is = λ rest end. tt
 wrote_sound g span R a (deeds.Intended b reply) is = λ rest end. tt
 wrote_sound g span R a (deeds.Recorded b reply) is = λ rest end. tt
+wrote_sound g span R a (deeds.Drained b reply) is = λ rest end. tt
 wrote_sound g span R a (deeds.Asked x) is = λ rest end. tt
 wrote_sound g span R a (deeds.Told committed) is = λ rest end. tt
 
@@ -191,6 +206,10 @@ intends_sound g span R a bars =
 pub records_sound : (g : Group) (span : List Deed) (R : Refusal → Type 0) (a : Alias) → Bars span R → IsSound g span R (records a) (λ x. IsRecorded span a)
 records_sound g span R a bars =
     bind_sound g span R (λ d. IsIn span d) (λ x. IsRecorded span a) _ _ (next_sound g span R (wants.Record a) tt) (λ d is. recorded_sound g span R a d bars is)
+
+pub drains_sound : (g : Group) (span : List Deed) (R : Refusal → Type 0) (a : Alias) → Bars span R → IsSound g span R (drains a) (λ x. IsDrained span a)
+drains_sound g span R a bars =
+    bind_sound g span R (λ d. IsIn span d) (λ x. IsDrained span a) _ _ (next_sound g span R (wants.Drain a) tt) (λ d is. drained_sound g span R a d bars is)
 
 pub writes_sound : (g : Group) (span : List Deed) (R : Refusal → Type 0) (a : Alias) → IsSound g span R (writes a) (λ x. IsWritten span a x)
 writes_sound g span R a = bind_sound g span R (λ d. IsIn span d) (λ x. IsWritten span a x) _ _ (next_sound g span R (wants.Write a) tt) (λ d is. wrote_sound g span R a d is)
@@ -234,6 +253,28 @@ needs_sound g span R a call founded refuses (deeds.Asked x ∷ rest) end =
     needed_at g span R a (kind_of call) (is_ask a (kind_of call) x) x refuses (here span (deeds.Asked x) rest end) refl rest (one_on span (deeds.Asked x) rest end)
 needs_sound g span R a call founded refuses (deeds.Took reply ∷ rest) end = tt
 needs_sound g span R a call founded refuses (_ ∷ rest) end = tt
+
+-- ---- a call that may come to anything
+
+abbrev once_if : Bool → Asked → Course Outcome
+once_if b x rest = goes_on (cond b (Ok x) (Err exits.Strays)) (λ y. walked (settling y.outcome)) rest
+
+came_at : (g : Group) (span : List Deed) (R : Refusal → Type 0) (a : Alias) (kind : Kind) (x : Asked) (out : Option Outcome)
+    → x.outcome ≡ out → IsIn span (deeds.Asked x) → is_ask a kind x ≡ true → IsSound g span R (walked (settling out)) (λ o. IsSettled span a kind o)
+came_at g span R a kind x None came is ask rest end = tt
+came_at g span R a kind x (Some o) came is ask rest end = (end, record { call_of = x; deed = is; is_call = ask; came = came })
+
+once_at : (g : Group) (span : List Deed) (R : Refusal → Type 0) (a : Alias) (kind : Kind) (b : Bool) (x : Asked)
+    → IsIn span (deeds.Asked x) → is_ask a kind x ≡ b → IsSound g span R (once_if b x) (λ o. IsSettled span a kind o)
+once_at g span R a kind true x is ask rest end = came_at g span R a kind x x.outcome refl is ask rest end
+once_at g span R a kind false x is ask rest end = tt
+
+pub calls_once_sound : (g : Group) (span : List Deed) (R : Refusal → Type 0) (a : Alias) (call : Call) → CallIsFounded g span a call
+    → IsSound g span R (calls_once a call) (λ o. IsSettled span a (kind_of call) o)
+calls_once_sound g span R a call founded [] end = founded
+calls_once_sound g span R a call founded (deeds.Asked x ∷ rest) end =
+    once_at g span R a (kind_of call) (is_ask a (kind_of call) x) x (here span (deeds.Asked x) rest end) refl rest (one_on span (deeds.Asked x) rest end)
+calls_once_sound g span R a call founded (_ ∷ rest) end = tt
 
 -- ---- calls of many
 

@@ -12,7 +12,7 @@ use Rattle.courses.specs.declared.want.Exit.{Exit}
 use Rattle.courses.specs.declared.want.Exit.TheVariants as exits
 use Rattle.courses.specs.declared.want.Want.{Want}
 use Rattle.shard_calls.specs.Kinds.{kind_of}
-use Rattle.courses.specs.Walks.{Course, Walked, walked, goes_on, ◌>>=◌, ◌>>◌, next, took, read, intended, recorded, wrote, told, takes_lock, reads, intends, records, writes, tells, tried, trying, needs, settling, needing, called_all, calling, asks_all, is_out, all_settled, calls_all, is_ask}
+use Rattle.courses.specs.Walks.{Course, Walked, walked, goes_on, ◌>>=◌, ◌>>◌, next, took, read, intended, recorded, drained, wrote, told, takes_lock, reads, intends, records, drains, writes, tells, tried, trying, calls_once, needs, settling, needing, called_all, calling, asks_all, is_out, all_settled, calls_all, is_ask}
 use Rattle.shard_calls.specs.Refusals.{refusal_after}
 use Rattle.shard_calls.specs.declared.answer.Answer.{Answer}
 use Rattle.courses.specs.Laws.{News, settle, settle_asked, is_waiting, IsStable}
@@ -92,6 +92,13 @@ intends_stable a = point_stable _ (intended a) (intended_same a)
 pub records_stable : (a : Alias) → IsStable (records a)
 records_stable a = point_stable _ (recorded a) (recorded_same a)
 
+drained_same : (a : Alias) → Reads (drained a)
+drained_same a h (deeds.Drained b reply) = refl
+drained_same a h _ = refl
+
+pub drains_stable : (a : Alias) → IsStable (drains a)
+drains_stable a = point_stable _ (drained a) (drained_same a)
+
 wrote_same : (a : Alias) → Reads (wrote a)
 wrote_same a h (deeds.Wrote b reply) = refl
 wrote_same a h _ = refl
@@ -125,6 +132,22 @@ pub needs_stable : (a : Alias) (call : Call) → IsStable (needs a call)
 needs_stable a call h [] goes = refl
 needs_stable a call h (deeds.Asked x ∷ rest) goes = needed_same h (is_ask a (kind_of call) x) x x.outcome rest goes
 needs_stable a call h (_ ∷ rest) goes = refl
+
+-- ---- a call that may come to anything
+
+abbrev once_if : Bool → Asked → List Deed → Walked Outcome
+once_if b x rest = goes_on (cond b (Ok x) (Err exits.Strays)) (λ y. walked (settling y.outcome)) rest
+
+once_same : (h : News) (b : Bool) (x : Asked) (out : Option Outcome) (rest : List Deed)
+    → Same h (once_if b (settle_asked h (with_outcome x out)) (map (settle h) rest)) (once_if b (with_outcome x out) rest).came (once_if b (with_outcome x out) rest).rest
+once_same h false x out rest goes = refl
+once_same h true x None rest goes = absurd (let both : true ≡ false = goes in cc)
+once_same h true x (Some before) rest goes = refl
+
+pub calls_once_stable : (a : Alias) (call : Call) → IsStable (calls_once a call)
+calls_once_stable a call h [] goes = refl
+calls_once_stable a call h (deeds.Asked x ∷ rest) goes = once_same h (is_ask a (kind_of call) x) x x.outcome rest goes
+calls_once_stable a call h (_ ∷ rest) goes = refl
 
 -- ---- calls of many
 

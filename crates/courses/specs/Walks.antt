@@ -138,6 +138,13 @@ recorded a _ = strays
 abbrev pub records : Alias → Course (Unit {0})
 records a = next (wants.Record a) >>= λ deed. walked (recorded a deed)
 
+abbrev pub drained : Alias → Deed → Result (Unit {0}) Exit
+drained a (deeds.Drained b reply) = if alias_eq b a then keeping_lock reply else strays
+drained a _ = strays
+
+abbrev pub drains : Alias → Course (Unit {0})
+drains a = next (wants.Drain a) >>= λ deed. walked (drained a deed)
+
 abbrev pub wrote : Alias → Deed → Result (Result Transaction Standing) Exit
 wrote a (deeds.Wrote b reply) = if alias_eq b a then Ok reply else strays
 wrote a _ = strays

@@ -2,7 +2,6 @@
 #![tactic(auto)]
 
 mod choosing;
-mod course;
 mod demands;
 mod emergency;
 mod external;
@@ -13,7 +12,6 @@ mod walk;
 mod want;
 mod writing;
 
-pub use course::{demand, play};
 pub use demands::{Demand, demand_by};
 pub use emergency::emergency_course;
 pub use external::external_course;
@@ -22,6 +20,6 @@ pub use laws::{
     planned_is_lawful, show_is_lawful, write_is_lawful,
 };
 pub use planned::planned_course;
-pub use walk::Walk;
+pub use walk::{Walk, tried};
 pub use want::{Exit, Want};
 pub use writing::{show_course, write_course};

@@ -3,7 +3,7 @@
 ghost use Rattle.std.specs.Prelude.{◌≡◌, take};
 ghost use Rattle.std.specs.List.{list_any};
 ghost use Rattle.shard_calls.specs.declared.refusal.Refusal.TheVariants as refusals;
-ghost use Rattle.courses.specs.Walks.{is_ask, is_out, walked, Walks, ok_copied, refusing, refuses, or_refusing, trying, keeping_lock, took, read, intended, recorded, wrote, told, asked, called_all, calling, settling, needing, all_settled, next, takes_lock, reads, intends, records, writes, tells, asks, needs, asks_all, calls_all};
+ghost use Rattle.courses.specs.Walks.{is_ask, is_out, walked, Walks, ok_copied, refusing, refuses, or_refusing, trying, keeping_lock, took, read, intended, recorded, drained, wrote, told, asked, called_all, calling, settling, needing, all_settled, next, takes_lock, reads, intends, records, drains, writes, tells, asks, calls_once, needs, asks_all, calls_all};
 
 use crate::{Exit, Want};
 use refusals::refusal_after;
@@ -116,6 +116,18 @@ fn recorded(alias: &Alias, deed: &Deed) -> Result<(), Exit>
 {
     match deed {
         Deed::Recorded {
+            alias: other,
+            reply,
+        } if *other == *alias => keeping_lock(reply),
+        _ => Err(Exit::Strays),
+    }
+}
+
+fn drained(alias: &Alias, deed: &Deed) -> Result<(), Exit>
+    ensures { result ≡ drained alias.now deed.now }
+{
+    match deed {
+        Deed::Drained {
             alias: other,
             reply,
         } if *other == *alias => keeping_lock(reply),
@@ -280,6 +292,14 @@ impl<'a> Walk<'a> {
         recorded(alias, deed)
     }
 
+    /// It marks the tablet as drained.
+    pub fn drain(&mut self, alias: &Alias) -> Result<(), Exit>
+        ensures { walked result self.new.rest.now ≡ drains alias.now self.old.rest.now }
+    {
+        let deed = self.next(Want::Drain { alias: *alias })?;
+        drained(alias, deed)
+    }
+
     /// It writes at the tablet.
     pub fn write(&mut self, alias: &Alias) -> Result<Result<Transaction, Standing>, Exit>
         ensures { walked result self.new.rest.now ≡ writes alias.now self.old.rest.now }
@@ -307,6 +327,14 @@ impl<'a> Walk<'a> {
         };
         let deed = self.next(want)?;
         asked(alias, kind, deed)
+    }
+
+    /// It calls the tablet, whatever the call comes to.
+    pub fn call(&mut self, alias: &Alias, call: Call) -> Result<&'a Outcome, Exit>
+        ensures { walked (ok_copied result) self.new.rest.now ≡ calls_once alias.now call self.old.rest.now }
+    {
+        let asked = self.ask(alias, call)?;
+        settling(asked)
     }
 
     /// It calls the tablet, and needs what the call comes to.

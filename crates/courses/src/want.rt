@@ -11,6 +11,7 @@ pub enum Want {
     Read,
     Intend { alias: Alias },
     Record { alias: Alias },
+    Drain { alias: Alias },
     Ask { alias: Alias, call: Call },
     Write { alias: Alias },
     Tell,

@@ -8,7 +8,7 @@ use Rattle.shard_names.specs.Tablets.{tablet_of}
 use Rattle.shard_names.proofs.TabletLemmas.{both_left, both_right}
 use Rattle.shard_names.specs.declared.alias.Alias.{Alias}
 use Rattle.shard_names.specs.declared.tablet.Tablet.{Tablet}
-use Rattle.topo_lock.specs.Topology.{is_held_in, answer_take, answer_intend, answer_record}
+use Rattle.topo_lock.specs.Topology.{is_held_in, answer_take, answer_intend, answer_record, answer_drain}
 use Rattle.topo_lock.specs.declared.lock.LockTaken.{LockTaken}
 use Rattle.topo_lock.specs.declared.lock.TopoFault.{TopoFault}
 use Rattle.topo_lock.specs.declared.lock.TopoFault.TheVariants as faults
@@ -35,7 +35,7 @@ use Rattle.shard_calls.specs.Commands.{timeout_of}
 use Rattle.shard_calls.specs.World.{Config, World, numbered, changed_at, on_message, arrives, with_act, next_message, open_of, open_command, term_of}
 use Rattle.shard_calls.specs.Messages.{why_given_up, offer_to}
 use Rattle.shard_calls.specs.Begins.{is_in_time, names_declared, begun_state, ends_by}
-use Rattle.shard_calls.specs.Locks.{with_taken, takes_by, by_term, read_act, reads, with_intended, intends_in, with_recorded, records_in, as_released, releases_in}
+use Rattle.shard_calls.specs.Locks.{with_taken, takes_by, by_term, read_act, reads, with_intended, intends_in, with_recorded, records_in, with_drained, drains_in, as_released, releases_in}
 use Rattle.shard_calls.specs.Deliveries.{if_declared, asked, fed, feed_verdict, after_arrival, after_delivery, gives_up, offers}
 use Rattle.shard_calls.specs.Writes.{with_written, write_verdict, writes_at, writes_in, told_act, with_told, tell_of}
 use Rattle.shard_calls.specs.Table.{Met, after}
@@ -70,7 +70,7 @@ other_fit x y wrote done command h = record {
   in_time = subst (λ (v : Command). timeout_of v ≤ 86400000) (sym command) h.in_time;
 }
 
--- ---- the lock, the intents and the record
+-- ---- the lock, the intents, the record and the marks
 
 taken_fit : (x : CommandState) (r : Result ℕ LockTaken) → CommandFits x → CommandFits (with_taken r x)
 taken_fit x (Ok t) h = acted_fit (acts.Took (Ok t)) (record x { term = Some t }) refl (other_fit x (record x { term = Some t }) refl refl refl h)
@@ -111,6 +111,16 @@ record_fit : (w : World) (d : ℕ) (a : Alias) (o : Option ℕ) → AllFit w.com
 record_fit w d a None all = all
 record_fit w d a (Some t) all =
     changed_fit w.commands d (with_recorded a (answer_record w.topo t)) all (λ x h. recorded_fit a x (answer_record w.topo t) h)
+
+drained_fit : (a : Alias) (x : CommandState) (r : Result (Unit {0}) TopoFault) → CommandFits x → CommandFits (with_drained a r x)
+drained_fit a x (Ok u) h = acted_fit (acts.Drained a (Ok tt)) x refl h
+drained_fit a x (Err (faults.LockLost current)) h = acted_fit (acts.Drained a (Err current)) x refl h
+drained_fit a x (Err (faults.IntentStands b)) h = h
+
+drain_fit : (w : World) (d : ℕ) (a : Alias) (o : Option ℕ) → AllFit w.commands → AllFit (by_term o w (drains_in w d a)).commands
+drain_fit w d a None all = all
+drain_fit w d a (Some t) all =
+    changed_fit w.commands d (with_drained a (answer_drain w.topo t)) all (λ x h. drained_fit a x (answer_drain w.topo t) h)
 
 release_fit : (w : World) (d : ℕ) (o : Option ℕ) → AllFit w.commands → AllFit (by_term o w (releases_in w d)).commands
 release_fit w d None all = all
@@ -234,6 +244,7 @@ commands_after config w (events.Take c) met all = take_fit w c (open_command w c
 commands_after config w (events.Read c) met all = read_fit w c (term_of w c) all
 commands_after config w (events.Intend c a) met all = intend_fit w c a (term_of w c) all
 commands_after config w (events.Record c a) met all = record_fit w c a (term_of w c) all
+commands_after config w (events.Drain c a) met all = drain_fit w c a (term_of w c) all
 commands_after config w (events.Release c) met all = release_fit w c (term_of w c) all
 commands_after config w events.Lapse met all = all
 commands_after config w (events.Send c a call) met all =

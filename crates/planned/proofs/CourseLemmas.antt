@@ -1,7 +1,6 @@
 -- Where each course halts: one that waits has a call out, and one that looks whether its entry counts as committed has written it.
-use Rattle.std.proofs.Common.{◌≡◌, ℕ, List, [], ◌∷◌, Bool, true, false, Option, Some, None, Result, Ok, Err, cond, ◌==◌, map, refl, sym, ap, ◌∙◌}
+use Rattle.std.proofs.Common.{◌≡◌, ℕ, List, [], ◌∷◌, Bool, true, false, Option, Some, None, Result, Ok, Err, cond, ◌==◌, refl}
 use Rattle.std.specs.List.{list_any, flat_map}
-use Rattle.std.specs.Prelude.{⊤}
 use Rattle.shard_names.specs.declared.alias.Alias.{Alias}
 use Rattle.shard_names.specs.Tablets.{alias_eq}
 use Rattle.gtid_sets.specs.declared.held.Held.{Held}
@@ -11,11 +10,8 @@ use Rattle.topo_lock.specs.declared.intent.Record.{Record}
 use Rattle.shard_calls.specs.declared.answer.Answer.{Answer}
 use Rattle.shard_calls.specs.declared.answer.Answer.TheVariants as says
 use Rattle.shard_calls.specs.declared.call.Call.TheVariants as calls
-use Rattle.shard_calls.specs.declared.command.Command.{Command}
-use Rattle.shard_calls.specs.declared.command.Command.TheVariants as commands
 use Rattle.shard_calls.specs.declared.command.EmergencyOptions.{EmergencyOptions}
 use Rattle.shard_calls.specs.declared.command.PlannedOptions.{PlannedOptions}
-use Rattle.shard_calls.specs.declared.ending.CommandAnswer.{CommandAnswer}
 use Rattle.shard_calls.specs.declared.ending.CommandAnswer.TheVariants as endings
 use Rattle.shard_calls.specs.declared.event.Seen.{Seen}
 use Rattle.shard_calls.specs.declared.group.Group.{Group}
@@ -23,32 +19,24 @@ use Rattle.shard_calls.specs.declared.refusal.Refusal.{Refusal}
 use Rattle.shard_calls.specs.declared.span.Deed.{Deed}
 use Rattle.shard_calls.specs.declared.span.Deed.TheVariants as deeds
 use Rattle.shard_calls.specs.declared.span.Transaction.{Transaction}
-use Rattle.shard_calls.specs.declared.stand.Stand.{Stand}
 use Rattle.shard_calls.specs.declared.stand.Standing.{Standing}
-use Rattle.shard_calls.specs.declared.state.Opening.{Opening}
 use Rattle.shard_calls.specs.declared.state.Shown.{Shown}
-use Rattle.shard_calls.specs.Causes.{is_idle, not_joined, row_of}
+use Rattle.shard_calls.specs.Causes.{is_idle, not_joined}
 use Rattle.shard_calls.specs.Choosing.{candidates, follower, first_of}
-use Rattle.shard_calls.specs.Commands.{emergency_with, planned_with}
 use Rattle.shard_calls.specs.Refusals.{or_else, recorded_alias, refusal_by_demoted, refusal_by_seen, refusal_of_crossing, refusal_of_emergency, refusal_of_planned, refusal_of_undeclared, term_of_promoted}
 use Rattle.shard_calls.specs.Rescuing.{first_by, heeded, helds, position_of, refusal_of_unrevoked, rescuer, stale_in, winner_of}
 use Rattle.shard_calls.specs.Stands.{standing_of}
-use Rattle.courses.specs.declared.demands.Demand.{Demand}
-use Rattle.courses.specs.declared.demands.Demand.TheVariants as demands
-use Rattle.courses.specs.declared.want.Exit.{Exit}
 use Rattle.courses.specs.declared.want.Exit.TheVariants as exits
-use Rattle.courses.specs.declared.want.Want.{Want}
-use Rattle.courses.specs.declared.want.Want.TheVariants as wants
-use Rattle.courses.specs.Walks.{Walked, walked, gives, goes_on, is_out}
+use Rattle.courses.specs.Walks.{gives, goes_on}
 use Rattle.courses.specs.Promoting.{promoted_position, told_so, others_than, established, promotes, reparents}
 use Rattle.courses.specs.Planned.{first_primary, successor, demoted_position, demotes, following, holding, catches_up, undone_by, undoes, reparents_all, replaced_by, replaces, reparents_from, reparents_by, planned_course}
 use Rattle.courses.specs.Emergency.{stops_all, is_fed, has_all, others_of, takes_over, rescues_by, rescues, emergency_course}
 use Rattle.courses.specs.External.{promoted_term, external_course}
 use Rattle.courses.specs.Writing.{written_by, writes_at, write_course, shown_by, show_course}
-use Rattle.courses.specs.Course.{shows, course_of, demand, demand_by}
-use Rattle.planned.proofs.HaltLemmas.{IsWithin, within_later, is_written, HaltsTo, Comes, Halts, IsPlain, plain_halts, bind_halts, then_halts, if_halts, tried_halts, unless_halts, or_plain, unless_refused_halts, if_plain, takes_halts, reads_halts, intends_halts, records_halts, needs_halts, calls_all_halts}
+use Rattle.recovery_loop.specs.Course.{shows}
+use Rattle.planned.proofs.HaltLemmas.{IsWithin, within_later, is_written, Comes, Halts, IsPlain, plain_halts, bind_halts, then_halts, if_halts, tried_halts, unless_halts, or_plain, unless_refused_halts, if_plain, takes_halts, reads_halts, intends_halts, records_halts, needs_halts, calls_all_halts}
 
-gives_halts : {A : Type 0} (span : List Deed) (x : A) → Halts span (gives x)
+pub gives_halts : {A : Type 0} (span : List Deed) (x : A) → Halts span (gives x)
 gives_halts span x rest within = within
 
 -- ---- the end of every reparent
@@ -221,7 +209,7 @@ by_halts span g o u seen None =
 by_halts span g o u seen (Some i) =
     if_halts span (is_idle o.avoid i.alias) _ _ (gives_halts span (endings.NothingToDo i.alias)) (from_halts span g o u seen i)
 
-planned_halts : (span : List Deed) (g : Group) (o : PlannedOptions) → Halts span (planned_course g o)
+pub planned_halts : (span : List Deed) (g : Group) (o : PlannedOptions) → Halts span (planned_course g o)
 unfolding planned_course
 planned_halts span g o =
     bind_halts span _ _ (then_halts span _ _ (unless_halts span (refusal_of_planned g o)) (takes_halts span))
@@ -266,7 +254,7 @@ rescues_halts : (span : List Deed) (g : Group) (o : EmergencyOptions) (u : ℕ) 
 unfolding rescues
 rescues_halts span g o u seen = bind_halts span _ _ (stops_halts span g o.ignored) (λ done. rescued_halts span g o u seen done)
 
-emergency_halts : (span : List Deed) (g : Group) (o : EmergencyOptions) → Halts span (emergency_course g o)
+pub emergency_halts : (span : List Deed) (g : Group) (o : EmergencyOptions) → Halts span (emergency_course g o)
 unfolding emergency_course
 emergency_halts span g o =
     bind_halts span _ _ (then_halts span _ _ (unless_halts span (refusal_of_emergency g o)) (takes_halts span))
@@ -293,7 +281,7 @@ term_plain a i (says.NotCaughtUp missing) = tt
 term_plain a i (says.Errant extra) = tt
 term_plain a i (says.NotStanding newest) = tt
 
-external_halts : (span : List Deed) (g : Group) (a : Alias) → Halts span (external_course g a)
+pub external_halts : (span : List Deed) (g : Group) (a : Alias) → Halts span (external_course g a)
 unfolding external_course
 external_halts span g a =
     bind_halts span _ _ (then_halts span _ _ (unless_halts span (refusal_of_undeclared g (Some a))) (takes_halts span))
@@ -314,6 +302,7 @@ told_halts span a x (deeds.Took reply ∷ rest) written within = tt
 told_halts span a x (deeds.Read reply ∷ rest) written within = tt
 told_halts span a x (deeds.Intended b reply ∷ rest) written within = tt
 told_halts span a x (deeds.Recorded b reply ∷ rest) written within = tt
+told_halts span a x (deeds.Drained b reply ∷ rest) written within = tt
 told_halts span a x (deeds.Asked y ∷ rest) written within = tt
 told_halts span a x (deeds.Wrote b reply ∷ rest) written within = tt
 told_halts span a x (deeds.Told committed ∷ rest) written within = within_later span (deeds.Told committed) rest within
@@ -335,52 +324,21 @@ at_halts span (Some a) (deeds.Took reply ∷ rest) within = tt
 at_halts span (Some a) (deeds.Read reply ∷ rest) within = tt
 at_halts span (Some a) (deeds.Intended b reply ∷ rest) within = tt
 at_halts span (Some a) (deeds.Recorded b reply ∷ rest) within = tt
+at_halts span (Some a) (deeds.Drained b reply ∷ rest) within = tt
 at_halts span (Some a) (deeds.Asked x ∷ rest) within = tt
 at_halts span (Some a) (deeds.Wrote b reply ∷ rest) within = wrote_halts span a b (alias_eq b a) reply rest within
 at_halts span (Some a) (deeds.Told committed ∷ rest) within = tt
 
-write_halts : (span : List Deed) (to : Option Alias) (recorded : Option Record) → Halts span (write_course to recorded)
+pub write_halts : (span : List Deed) (to : Option Alias) (recorded : Option Record) → Halts span (write_course to recorded)
 unfolding write_course
 write_halts span to recorded = at_halts span (or_else to (recorded_alias recorded))
 
--- ---- any command
+-- ---- a show
 
 show_halts : (span : List Deed) (a : Alias) (stand : Standing) (p : Position) → Halts span (show_course a stand p)
 unfolding show_course
 show_halts span a stand p = gives_halts span (shown_by a stand p)
 
-shows_halts : (span : List Deed) (a : Alias) (o : Option Shown) → Halts span (shows a o)
+pub shows_halts : (span : List Deed) (a : Alias) (o : Option Shown) → Halts span (shows a o)
 shows_halts span a None = λ rest within. tt
 shows_halts span a (Some x) = show_halts span a (standing_of x.stand) x.position
-
-course_halts : (span : List Deed) (g : Group) (command : Command) (opening : Opening) → Halts span (course_of g command opening)
-unfolding course_of
-course_halts span g (commands.Planned shard new_primary avoid expected timeout crossing) opening = planned_halts span g (planned_with new_primary avoid expected timeout crossing)
-course_halts span g (commands.Emergency shard new_primary ignored expected timeout preventing) opening =
-    emergency_halts span g (emergency_with new_primary ignored expected timeout preventing)
-course_halts span g (commands.External a) opening = external_halts span g a
-course_halts span g (commands.Write to) opening = write_halts span to opening.seen.recorded
-course_halts span g (commands.Show a) opening = shows_halts span a opening.shown
-course_halts span g (commands.GetShard shard) opening = gives_halts span (endings.Shard shard opening.seen.recorded)
-course_halts span g (commands.GetTablets shard) opening = gives_halts span (endings.Tablets (map (row_of opening.seen) g.tablets))
-
--- ---- what a command waits for
-
--- what the demand waits for is in the span
-abbrev pub WaitsFor : List Deed → Demand → Type 0
-WaitsFor span (demands.Does want) = HaltsTo span want
-WaitsFor span demands.Awaits = list_any is_out span ≡ true
-WaitsFor span (demands.Leaves x) = ⊤
-
-demand_waits : (span : List Deed) (came : Result CommandAnswer Exit) (rest : List Deed) → Comes span came rest → WaitsFor span (demand_by came)
-demand_waits span (Ok x) rest comes = tt
-demand_waits span (Err (exits.Does want)) rest comes = comes
-demand_waits span (Err exits.Waits) rest comes = comes
-demand_waits span (Err (exits.Refused r)) rest comes = tt
-demand_waits span (Err exits.Strays) rest comes = tt
-demand_waits span (Err exits.OutOfMemory) rest comes = tt
-
-pub waits_for : (span : List Deed) (g : Group) (command : Command) (opening : Opening) → WaitsFor span (demand (course_of g command opening) span)
-waits_for span g command opening =
-    let w : Walked CommandAnswer = course_of g command opening span in
-    demand_waits span w.came w.rest (course_halts span g command opening span (λ p h. h))

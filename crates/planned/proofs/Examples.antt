@@ -35,7 +35,7 @@ use Rattle.courses.specs.Planned.{successor, demotes, catches_up, undone_by, und
 use Rattle.courses.specs.Emergency.{stops_all, is_fed, has_all, takes_over, rescues_by, rescues, emergency_course}
 use Rattle.courses.specs.External.{external_course}
 use Rattle.courses.specs.Writing.{write_course, show_course}
-use Rattle.courses.specs.Course.{course_of}
+use Rattle.recovery_loop.specs.Course.{course_of}
 use Rattle.planned.specs.Leaving.{or_else}
 use Rattle.planned.specs.Course.{may, next, leaves}
 
@@ -52,7 +52,7 @@ turn config w c =
     cond (is_some (open_command w c)) (or_else (next config w c) (option_map (λ k. events.Deliver k) (first_to_come w 1 w.post))) None
 
 -- so many turns, or those up to its end
-abbrev played : Config → World → ℕ → ℕ → List Event
+abbrev pub played : Config → World → ℕ → ℕ → List Event
 played config w c zero = []
 played config w c (suc n) = elim (turn config w c) [ None ↦ [] | Some e ↦ e ∷ played config (after config w e) c n ]
 
@@ -62,7 +62,7 @@ offered w [] = None
 offered w (t ∷ ts) = cond (is_some (offer_to w t.alias)) (Some (events.Offer t.alias)) (offered w ts)
 
 -- the same turns, with entries where nothing else comes; and the last of them
-abbrev last_pumped : Config → World → ℕ → ℕ → Option Event → Option Event
+abbrev pub last_pumped : Config → World → ℕ → ℕ → Option Event → Option Event
 last_pumped config w c zero last = last
 last_pumped config w c (suc n) last =
     elim (or_else (turn config w c) (cond (is_some (open_command w c)) (offered w config.tablets) None))
@@ -73,7 +73,7 @@ abbrev all_met : Config → World → List Event → Bool
 all_met config w [] = true
 all_met config w (e ∷ es) = meets config w e && all_met config (after config w e) es
 
-abbrev world_after_events : Config → World → List Event → World
+abbrev pub world_after_events : Config → World → List Event → World
 world_after_events config w [] = w
 world_after_events config w (e ∷ es) = world_after_events config (after config w e) es
 
@@ -82,13 +82,13 @@ world_after_events config w (e ∷ es) = world_after_events config (after config
 abbrev alias_of : ℕ → Alias
 alias_of uid = record { cell = codes "zone1"; uid = uid }
 
-abbrev z100 : Alias
+abbrev pub z100 : Alias
 z100 = alias_of 100
 
-abbrev z101 : Alias
+abbrev pub z101 : Alias
 z101 = alias_of 101
 
-abbrev z102 : Alias
+abbrev pub z102 : Alias
 z102 = alias_of 102
 
 abbrev server_with : ℕ → List ℕ
@@ -125,7 +125,7 @@ after_begin config a = after config (opening config) (events.Begin main_name (pl
 abbrev replicas_under : Durability → Config
 replicas_under policy = record { tablets = replica_of 100 0 ∷ replica_of 101 1 ∷ replica_of 102 2 ∷ []; policy = policy; moment = start }
 
-abbrev replicas : Config
+abbrev pub replicas : Config
 replicas = replicas_under policies.None
 
 abbrev events_of_reparent : List Event
@@ -158,7 +158,7 @@ reparent_met : all_met replicas (after_begin replicas z100) events_of_reparent �
 unfolding course_of established promotes reparents reason_to_follow reason_among successor demotes catches_up undone_by undoes reparents_all replaced_by replaces reparents_from reparents_by planned_course
 reparent_met = refl
 
-abbrev after_reparent : World
+abbrev pub after_reparent : World
 after_reparent = world_after_events replicas (after_begin replicas z100) events_of_reparent
 
 -- ---- a second one replaces the primary
@@ -448,7 +448,7 @@ leaving_then = refl
 
 -- ---- acknowledgements under semi_sync
 
-abbrev semi : Config
+abbrev pub semi : Config
 semi = replicas_under policies.SemiSync
 
 abbrev events_up_to_wait : List Event
@@ -496,7 +496,7 @@ ack_met : all_met semi after_semi_wait events_of_ack ≡ true
 unfolding course_of established promotes reparents reason_to_follow reason_among successor demotes catches_up undone_by undoes reparents_all replaced_by replaces reparents_from reparents_by planned_course
 ack_met = refl
 
-abbrev after_ack : World
+abbrev pub after_ack : World
 after_ack = world_after_events semi after_semi_wait events_of_ack
 
 acked_played :

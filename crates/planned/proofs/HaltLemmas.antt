@@ -20,7 +20,7 @@ use Rattle.courses.specs.declared.want.Exit.{Exit}
 use Rattle.courses.specs.declared.want.Exit.TheVariants as exits
 use Rattle.courses.specs.declared.want.Want.{Want}
 use Rattle.courses.specs.declared.want.Want.TheVariants as wants
-use Rattle.courses.specs.Walks.{Course, Walked, walked, goes_on, ◌>>=◌, ◌>>◌, gives, unless, refusing, or_refusing, unless_refused, keeping_lock, next, took, read, intended, recorded, takes_lock, reads, intends, records, tried, trying, needs, settling, needing, called_all, calling, asks_all, is_out, all_settled, calls_all, is_ask}
+use Rattle.courses.specs.Walks.{Course, Walked, walked, goes_on, ◌>>=◌, ◌>>◌, gives, unless, refusing, or_refusing, unless_refused, keeping_lock, next, took, read, intended, recorded, drained, takes_lock, reads, intends, records, drains, tried, trying, needs, settling, needing, calls_once, called_all, calling, asks_all, is_out, all_settled, calls_all, is_ask}
 
 -- ---- what is found of a part of a span is found of the span
 
@@ -54,6 +54,7 @@ is_written (deeds.Took reply) = false
 is_written (deeds.Read reply) = false
 is_written (deeds.Intended a reply) = false
 is_written (deeds.Recorded a reply) = false
+is_written (deeds.Drained a reply) = false
 is_written (deeds.Asked x) = false
 is_written (deeds.Wrote a (Ok x)) = true
 is_written (deeds.Wrote a (Err stand)) = false
@@ -65,6 +66,7 @@ HaltsTo span wants.Take = ⊤
 HaltsTo span wants.Read = ⊤
 HaltsTo span (wants.Intend a) = ⊤
 HaltsTo span (wants.Record a) = ⊤
+HaltsTo span (wants.Drain a) = ⊤
 HaltsTo span (wants.Ask a call) = ⊤
 HaltsTo span (wants.Write a) = ⊤
 HaltsTo span wants.Tell = list_any is_written span ≡ true
@@ -172,6 +174,7 @@ took_plain (deeds.Took (Err held)) = tt
 took_plain (deeds.Read reply) = tt
 took_plain (deeds.Intended a reply) = tt
 took_plain (deeds.Recorded a reply) = tt
+took_plain (deeds.Drained a reply) = tt
 took_plain (deeds.Asked x) = tt
 took_plain (deeds.Wrote a reply) = tt
 took_plain (deeds.Told committed) = tt
@@ -181,6 +184,7 @@ read_plain (deeds.Took reply) = tt
 read_plain (deeds.Read reply) = kept_plain reply
 read_plain (deeds.Intended a reply) = tt
 read_plain (deeds.Recorded a reply) = tt
+read_plain (deeds.Drained a reply) = tt
 read_plain (deeds.Asked x) = tt
 read_plain (deeds.Wrote a reply) = tt
 read_plain (deeds.Told committed) = tt
@@ -190,6 +194,7 @@ intended_plain a (deeds.Took reply) = tt
 intended_plain a (deeds.Read reply) = tt
 intended_plain a (deeds.Intended b reply) = if_plain (alias_eq b a) (keeping_lock reply) (Err exits.Strays) (kept_plain reply) tt
 intended_plain a (deeds.Recorded b reply) = tt
+intended_plain a (deeds.Drained b reply) = tt
 intended_plain a (deeds.Asked x) = tt
 intended_plain a (deeds.Wrote b reply) = tt
 intended_plain a (deeds.Told committed) = tt
@@ -199,9 +204,20 @@ recorded_plain a (deeds.Took reply) = tt
 recorded_plain a (deeds.Read reply) = tt
 recorded_plain a (deeds.Intended b reply) = tt
 recorded_plain a (deeds.Recorded b reply) = if_plain (alias_eq b a) (keeping_lock reply) (Err exits.Strays) (kept_plain reply) tt
+recorded_plain a (deeds.Drained b reply) = tt
 recorded_plain a (deeds.Asked x) = tt
 recorded_plain a (deeds.Wrote b reply) = tt
 recorded_plain a (deeds.Told committed) = tt
+
+drained_plain : (a : Alias) (d : Deed) → IsPlain (drained a d)
+drained_plain a (deeds.Took reply) = tt
+drained_plain a (deeds.Read reply) = tt
+drained_plain a (deeds.Intended b reply) = tt
+drained_plain a (deeds.Recorded b reply) = tt
+drained_plain a (deeds.Drained b reply) = if_plain (alias_eq b a) (keeping_lock reply) (Err exits.Strays) (kept_plain reply) tt
+drained_plain a (deeds.Asked x) = tt
+drained_plain a (deeds.Wrote b reply) = tt
+drained_plain a (deeds.Told committed) = tt
 
 pub takes_halts : (span : List Deed) → Halts span takes_lock
 takes_halts span = point_halts span wants.Take took tt took_plain
@@ -214,6 +230,9 @@ intends_halts span a = point_halts span (wants.Intend a) (intended a) tt (intend
 
 pub records_halts : (span : List Deed) (a : Alias) → Halts span (records a)
 records_halts span a = point_halts span (wants.Record a) (recorded a) tt (recorded_plain a)
+
+pub drains_halts : (span : List Deed) (a : Alias) → Halts span (drains a)
+drains_halts span a = point_halts span (wants.Drain a) (drained a) tt (drained_plain a)
 
 -- ---- calls
 
@@ -242,9 +261,34 @@ needs_halts span a call (deeds.Took reply ∷ rest) within = tt
 needs_halts span a call (deeds.Read reply ∷ rest) within = tt
 needs_halts span a call (deeds.Intended b reply ∷ rest) within = tt
 needs_halts span a call (deeds.Recorded b reply ∷ rest) within = tt
+needs_halts span a call (deeds.Drained b reply ∷ rest) within = tt
 needs_halts span a call (deeds.Asked x ∷ rest) within = needed_at span (is_ask a (kind_of call) x) x rest within
 needs_halts span a call (deeds.Wrote b reply ∷ rest) within = tt
 needs_halts span a call (deeds.Told committed ∷ rest) within = tt
+
+-- a call that may come to anything
+abbrev once_if : Bool → Asked → Course Outcome
+once_if b x = walked (cond b (Ok x) (Err exits.Strays)) >>= λ y. walked (settling y.outcome)
+
+once_halts : (span : List Deed) (x : Asked) (out : Option Outcome) (rest : List Deed) → x.outcome ≡ out → IsWithin span (deeds.Asked x ∷ rest)
+    → Comes span (settling out) rest
+once_halts span x None rest is within = within is_out (first_of_any (is_none x.outcome) (list_any is_out rest) (ap (λ (o : Option Outcome). is_none o) is))
+once_halts span x (Some o) rest is within = within_later span (deeds.Asked x) rest within
+
+once_at : (span : List Deed) (b : Bool) (x : Asked) (rest : List Deed) → IsWithin span (deeds.Asked x ∷ rest) → Comes span (once_if b x rest).came (once_if b x rest).rest
+once_at span true x rest within = once_halts span x x.outcome rest refl within
+once_at span false x rest within = tt
+
+pub calls_once_halts : (span : List Deed) (a : Alias) (call : Call) → Halts span (calls_once a call)
+calls_once_halts span a call [] within = tt
+calls_once_halts span a call (deeds.Took reply ∷ rest) within = tt
+calls_once_halts span a call (deeds.Read reply ∷ rest) within = tt
+calls_once_halts span a call (deeds.Intended b reply ∷ rest) within = tt
+calls_once_halts span a call (deeds.Recorded b reply ∷ rest) within = tt
+calls_once_halts span a call (deeds.Drained b reply ∷ rest) within = tt
+calls_once_halts span a call (deeds.Asked x ∷ rest) within = once_at span (is_ask a (kind_of call) x) x rest within
+calls_once_halts span a call (deeds.Wrote b reply ∷ rest) within = tt
+calls_once_halts span a call (deeds.Told committed ∷ rest) within = tt
 
 called_if : (span : List Deed) (b : Bool) (x : Asked) (m : Course (Option Alias)) (rest : List Deed) → IsWithin span rest → Halts span m
     → Comes span (goes_on (cond b (Ok x) (Err exits.Strays)) (λ y. m) rest).came (goes_on (cond b (Ok x) (Err exits.Strays)) (λ y. m) rest).rest
@@ -258,6 +302,7 @@ called_halts span (a ∷ more) kind (deeds.Took reply ∷ rest) within = tt
 called_halts span (a ∷ more) kind (deeds.Read reply ∷ rest) within = tt
 called_halts span (a ∷ more) kind (deeds.Intended b reply ∷ rest) within = tt
 called_halts span (a ∷ more) kind (deeds.Recorded b reply ∷ rest) within = tt
+called_halts span (a ∷ more) kind (deeds.Drained b reply ∷ rest) within = tt
 called_halts span (a ∷ more) kind (deeds.Asked x ∷ rest) within =
     called_if span (is_ask a kind x) x (called_all more kind) rest (within_later span (deeds.Asked x) rest within) (called_halts span more kind)
 called_halts span (a ∷ more) kind (deeds.Wrote b reply ∷ rest) within = tt

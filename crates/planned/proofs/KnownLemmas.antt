@@ -14,6 +14,7 @@ writes_it (acts.Took reply) = false
 writes_it (acts.Read reply) = false
 writes_it (acts.Intended a reply) = false
 writes_it (acts.Recorded a reply) = false
+writes_it (acts.Drained a reply) = false
 writes_it (acts.Sent k) = false
 writes_it (acts.Wrote a (Ok g)) = true
 writes_it (acts.Wrote a (Err stand)) = false

@@ -1,8 +1,11 @@
 pub mod Examples
+pub mod WatchExamples
 pub mod KnownLemmas
 pub mod NextLemmas
 pub mod HaltLemmas
 pub mod CourseLemmas
+pub mod WatchLemmas
+pub mod DemandLemmas
 pub mod WaitLemmas
 pub mod CommandFitLemmas
 pub mod ReachedLemmas
@@ -14,3 +17,4 @@ pub mod PendingLemmas
 pub mod FollowLemmas
 pub mod LateLemmas
 pub mod GivingLemmas
+pub mod QuietLemmas

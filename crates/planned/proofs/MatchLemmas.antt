@@ -4,7 +4,7 @@ use Rattle.std.specs.List.{slice_get}
 use Rattle.shard_names.specs.declared.alias.Alias.{Alias}
 use Rattle.shard_names.specs.declared.tablet.Tablet.{Tablet}
 use Rattle.shard_names.specs.Tablets.{tablet_of}
-use Rattle.topo_lock.specs.Topology.{answer_take, answer_intend, answer_record}
+use Rattle.topo_lock.specs.Topology.{answer_take, answer_intend, answer_record, answer_drain}
 use Rattle.topo_lock.specs.declared.lock.LockTaken.{LockTaken}
 use Rattle.topo_lock.specs.declared.lock.TopoFault.{TopoFault}
 use Rattle.topo_lock.specs.declared.lock.TopoFault.TheVariants as faults
@@ -15,7 +15,7 @@ use Rattle.shard_calls.specs.declared.state.ActorState.{ActorState}
 use Rattle.shard_calls.specs.declared.state.CommandState.{CommandState}
 use Rattle.shard_calls.specs.World.{Config, World, changed_at, numbered, place_of, with_act}
 use Rattle.shard_calls.specs.Tablets.{TabletState}
-use Rattle.shard_calls.specs.Locks.{with_taken, takes_by, by_term, read_act, reads, with_intended, intends_in, with_recorded, records_in, as_released, releases_in}
+use Rattle.shard_calls.specs.Locks.{with_taken, takes_by, by_term, read_act, reads, with_intended, intends_in, with_recorded, records_in, with_drained, drains_in, as_released, releases_in}
 use Rattle.shard_calls.specs.Deliveries.{if_declared}
 use Rattle.shard_calls.specs.Writes.{with_written, write_verdict, writes_at, writes_in, with_told}
 use Rattle.shard_calls.proofs.ListLemmas.{changed_at_cases}
@@ -122,6 +122,16 @@ pub record_match : (w : World) (c : ℕ) (a : Alias) (o : Option ℕ) → Match 
     → Match (by_term o w (records_in w c a)).actors (by_term o w (records_in w c a)).commands
 record_match w c a None h = h
 record_match w c a (Some t) h = on_change w c (with_recorded a (answer_record w.topo t)) (λ x. recorded_alike a (answer_record w.topo t) x) h
+
+drained_alike : (a : Alias) (r : Result (Unit {0}) TopoFault) (x : CommandState) → Alike x (with_drained a r x)
+drained_alike a (Ok u) x = alike_itself x (with_drained a (Ok u) x) refl refl refl
+drained_alike a (Err (faults.LockLost current)) x = alike_itself x (with_drained a (Err (faults.LockLost current)) x) refl refl refl
+drained_alike a (Err (faults.IntentStands b)) x = itself x
+
+pub drain_match : (w : World) (c : ℕ) (a : Alias) (o : Option ℕ) → Match w.actors w.commands
+    → Match (by_term o w (drains_in w c a)).actors (by_term o w (drains_in w c a)).commands
+drain_match w c a None h = h
+drain_match w c a (Some t) h = on_change w c (with_drained a (answer_drain w.topo t)) (λ x. drained_alike a (answer_drain w.topo t) x) h
 
 pub release_match : (w : World) (c : ℕ) (o : Option ℕ) → Match w.actors w.commands
     → Match (by_term o w (releases_in w c)).actors (by_term o w (releases_in w c)).commands

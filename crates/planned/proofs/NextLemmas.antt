@@ -53,6 +53,7 @@ pub free_cause : (config : Config) (w : World) (s : CommandState) (command : Com
 free_cause config w s (commands.Planned shard new_primary avoid expected timeout allow_cross_cell) = refl
 free_cause config w s (commands.Emergency shard new_primary ignored expected timeout prevent_cross_cell) = refl
 free_cause config w s (commands.External a) = refl
+free_cause config w s commands.Vtorc = refl
 free_cause config w s (commands.Write to) = refl
 free_cause config w s (commands.Show a) = refl
 free_cause config w s (commands.GetShard shard) = refl
@@ -82,6 +83,7 @@ does_met config w c s wants.Take found = if_met_met config w c s (event_of w c w
 does_met config w c s wants.Read found = if_met_met config w c s (event_of w c wants.Read) found
 does_met config w c s (wants.Intend a) found = if_met_met config w c s (event_of w c (wants.Intend a)) found
 does_met config w c s (wants.Record a) found = if_met_met config w c s (event_of w c (wants.Record a)) found
+does_met config w c s (wants.Drain a) found = if_met_met config w c s (event_of w c (wants.Drain a)) found
 does_met config w c s (wants.Ask a call) found = if_met_met config w c s (event_of w c (wants.Ask a call)) found
 does_met config w c s (wants.Write a) found = if_met_met config w c s (event_of w c (wants.Write a)) found
 does_met config w c s wants.Tell found = tells_met config w c
@@ -100,6 +102,7 @@ give_up_met config w c (deeds.Took reply) es rest = rest
 give_up_met config w c (deeds.Read reply) es rest = rest
 give_up_met config w c (deeds.Intended a reply) es rest = rest
 give_up_met config w c (deeds.Recorded a reply) es rest = rest
+give_up_met config w c (deeds.Drained a reply) es rest = rest
 give_up_met config w c (deeds.Asked x) es rest =
     given_up_met config w c x.message (is_none x.outcome) (is_some (why_given_up w c x.message)) es refl rest
 give_up_met config w c (deeds.Wrote a reply) es rest = rest

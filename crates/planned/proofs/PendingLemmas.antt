@@ -18,7 +18,7 @@ use Rattle.planned.proofs.KnownLemmas.{open_numbered}
 use Rattle.planned.specs.Pending.{PendingIsOpen, OpenIsPending, FreeMayBegin, EndedMayBegin, ActorsFitAlways}
 use Rattle.planned.proofs.ActorLemmas.{at_place}
 use Rattle.planned.proofs.CommandFitLemmas.{delivery_alone, up_alone, offer_alone, local_alone}
-use Rattle.planned.proofs.MatchLemmas.{Match, take_match, read_match, intend_match, record_match, release_match, act_match, write_match, tell_match, alone_match}
+use Rattle.planned.proofs.MatchLemmas.{Match, take_match, read_match, intend_match, record_match, drain_match, release_match, act_match, write_match, tell_match, alone_match}
 use Rattle.planned.proofs.BeginLemmas.{same_actor, pends, begin_match}
 use Rattle.planned.proofs.EndLemmas.{open_runs, same_state, ends_match}
 
@@ -33,6 +33,7 @@ match_on config w (events.Take c) met h = take_match w c (open_command w c) h
 match_on config w (events.Read c) met h = read_match w c (term_of w c) h
 match_on config w (events.Intend c a) met h = intend_match w c a (term_of w c) h
 match_on config w (events.Record c a) met h = record_match w c a (term_of w c) h
+match_on config w (events.Drain c a) met h = drain_match w c a (term_of w c) h
 match_on config w (events.Release c) met h = release_match w c (term_of w c) h
 match_on config w events.Lapse met h = h
 match_on config w (events.Send c a call) met h = act_match w c _ h

@@ -14,7 +14,7 @@ use Rattle.shard_calls.specs.declared.state.CommandState.{CommandState}
 use Rattle.shard_calls.specs.World.{Config, World, opening, numbered, open_command, term_of}
 use Rattle.shard_calls.specs.Messages.{why_given_up, offer_to}
 use Rattle.shard_calls.specs.Begins.{ends_by}
-use Rattle.shard_calls.specs.Locks.{takes_by, by_term, reads, intends_in, records_in, releases_in}
+use Rattle.shard_calls.specs.Locks.{takes_by, by_term, reads, intends_in, records_in, drains_in, releases_in}
 use Rattle.shard_calls.specs.Writes.{writes_at, writes_in, tell_of, told_act, with_told}
 use Rattle.shard_calls.specs.Deliveries.{if_declared}
 use Rattle.shard_calls.specs.Table.{Met, after, world_after, IsRunFrom}
@@ -63,6 +63,7 @@ clock_after config w (events.Take c) met h = clock_as w.clock _ (clock_take w c 
 clock_after config w (events.Read c) met h = clock_as w.clock _ (clock_by w (reads w c) (term_of w c) (λ t. refl)) h
 clock_after config w (events.Intend c a) met h = clock_as w.clock _ (clock_by w (intends_in w c a) (term_of w c) (λ t. refl)) h
 clock_after config w (events.Record c a) met h = clock_as w.clock _ (clock_by w (records_in w c a) (term_of w c) (λ t. refl)) h
+clock_after config w (events.Drain c a) met h = clock_as w.clock _ (clock_by w (drains_in w c a) (term_of w c) (λ t. refl)) h
 clock_after config w (events.Release c) met h = clock_as w.clock _ (clock_by w (releases_in w c) (term_of w c) (λ t. refl)) h
 clock_after config w events.Lapse met h = h
 clock_after config w (events.Send c a call) met h = h

@@ -28,7 +28,7 @@ use Rattle.planned.specs.Course.{event_of, if_met, tells, does, may_by, demand_o
 use Rattle.planned.specs.Laws.{is_unsettled, Waits, ForCall, ToBeTold}
 use Rattle.planned.proofs.KnownLemmas.{writes_it, CommandFits, IsReached, open_numbered}
 use Rattle.planned.proofs.HaltLemmas.{is_written, HaltsTo}
-use Rattle.planned.proofs.CourseLemmas.{WaitsFor, waits_for}
+use Rattle.planned.proofs.DemandLemmas.{WaitsFor, waits_for}
 
 -- one event is something to do
 one_goes : {P : Type 0} (e : Event) → ◌≡◌ {A = List Event} (e ∷ []) [] → P
@@ -63,6 +63,7 @@ act_out post t (acts.Took reply) ds ss rest h = rest h
 act_out post t (acts.Read reply) ds ss rest h = rest h
 act_out post t (acts.Intended a reply) ds ss rest h = rest h
 act_out post t (acts.Recorded a reply) ds ss rest h = rest h
+act_out post t (acts.Drained a reply) ds ss rest h = rest h
 act_out post t (acts.Sent k) ds ss rest h = sent_out post k (numbered post k) ds ss rest h
 act_out post t (acts.Wrote a reply) ds ss rest h = rest h
 act_out post t (acts.Told committed) ds ss rest h = rest h
@@ -93,6 +94,7 @@ act_wrote post t (acts.Took reply) ds rest on h = on h
 act_wrote post t (acts.Read reply) ds rest on h = on h
 act_wrote post t (acts.Intended a reply) ds rest on h = on h
 act_wrote post t (acts.Recorded a reply) ds rest on h = on h
+act_wrote post t (acts.Drained a reply) ds rest on h = on h
 act_wrote post t (acts.Sent k) ds rest on h = sent_wrote post k (numbered post k) ds rest on h
 act_wrote post t (acts.Wrote a (Ok g)) ds rest on h = refl
 act_wrote post t (acts.Wrote a (Err stand)) ds rest on h = on h
@@ -124,6 +126,7 @@ does_waits config w c s wants.Take fits halts h = one_goes (if_met config w c s 
 does_waits config w c s wants.Read fits halts h = one_goes (if_met config w c s (event_of w c wants.Read)) h
 does_waits config w c s (wants.Intend a) fits halts h = one_goes (if_met config w c s (event_of w c (wants.Intend a))) h
 does_waits config w c s (wants.Record a) fits halts h = one_goes (if_met config w c s (event_of w c (wants.Record a))) h
+does_waits config w c s (wants.Drain a) fits halts h = one_goes (if_met config w c s (event_of w c (wants.Drain a))) h
 does_waits config w c s (wants.Ask a call) fits halts h = one_goes (if_met config w c s (event_of w c (wants.Ask a call))) h
 does_waits config w c s (wants.Write a) fits halts h = one_goes (if_met config w c s (event_of w c (wants.Write a))) h
 does_waits config w c s wants.Tell fits halts h =

@@ -1,5 +1,5 @@
 -- What a command may do next, and how it leaves that has run out of memory: by the walk of its course along what it did. Commands are those of
--- vtctldclient (Vitess manual).
+-- vtctldclient and VTOrc (Vitess manual).
 use Rattle.std.specs.Prelude.{◌≡◌, ℕ, ◌+◌, ◌<◌, ◌&&◌, List, [], ◌∷◌, Option, Some, None, is_none, is_some, filter_map, if◌then◌else◌}
 use Rattle.shard_base.specs.Options.{only_if}
 use Rattle.shard_calls.specs.declared.call.Call.{Call}
@@ -22,7 +22,8 @@ use Rattle.courses.specs.declared.demands.Demand.{Demand}
 use Rattle.courses.specs.declared.demands.Demand.TheVariants as demands
 use Rattle.courses.specs.declared.want.Want.{Want}
 use Rattle.courses.specs.declared.want.Want.TheVariants as wants
-use Rattle.courses.specs.Course.{course_of, demand}
+use Rattle.courses.specs.Course.{demand}
+use Rattle.recovery_loop.specs.Course.{course_of}
 use Rattle.planned.specs.Leaving.{leaving, refusing}
 
 -- ---- what it does
@@ -43,6 +44,7 @@ event_of w c wants.Take = events.Take c
 event_of w c wants.Read = events.Read c
 event_of w c (wants.Intend a) = events.Intend c a
 event_of w c (wants.Record a) = events.Record c a
+event_of w c (wants.Drain a) = events.Drain c a
 event_of w c (wants.Ask a call) = events.Send c a (timed w.clock call)
 event_of w c (wants.Write a) = events.Write c a
 event_of w c wants.Tell = events.Tell c
@@ -60,6 +62,7 @@ does config w c s wants.Take = if_met config w c s (event_of w c wants.Take) ∷
 does config w c s wants.Read = if_met config w c s (event_of w c wants.Read) ∷ []
 does config w c s (wants.Intend a) = if_met config w c s (event_of w c (wants.Intend a)) ∷ []
 does config w c s (wants.Record a) = if_met config w c s (event_of w c (wants.Record a)) ∷ []
+does config w c s (wants.Drain a) = if_met config w c s (event_of w c (wants.Drain a)) ∷ []
 does config w c s (wants.Ask a call) = if_met config w c s (event_of w c (wants.Ask a call)) ∷ []
 does config w c s (wants.Write a) = if_met config w c s (event_of w c (wants.Write a)) ∷ []
 does config w c s wants.Tell = tells w c
@@ -72,6 +75,7 @@ give_up_of w c (deeds.Took reply) = None
 give_up_of w c (deeds.Read reply) = None
 give_up_of w c (deeds.Intended a reply) = None
 give_up_of w c (deeds.Recorded a reply) = None
+give_up_of w c (deeds.Drained a reply) = None
 give_up_of w c (deeds.Asked x) = only_if (is_none x.outcome && is_some (why_given_up w c x.message)) (events.GiveUp c x.message)
 give_up_of w c (deeds.Wrote a reply) = None
 give_up_of w c (deeds.Told committed) = None

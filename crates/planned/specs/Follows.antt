@@ -16,6 +16,7 @@ maker_of (events.Take c) = Some c
 maker_of (events.Read c) = Some c
 maker_of (events.Intend c a) = Some c
 maker_of (events.Record c a) = Some c
+maker_of (events.Drain c a) = Some c
 maker_of (events.Release c) = Some c
 maker_of events.Lapse = None
 maker_of (events.Send c a call) = Some c

@@ -9,7 +9,9 @@ use Rattle.shard_calls.specs.declared.state.Wrote.{Wrote}
 use Rattle.shard_calls.specs.Outcomes.{Sending, sendings}
 use Rattle.shard_calls.specs.World.{Config, World, opening, open_command}
 use Rattle.shard_calls.specs.Writes.{tell_of}
-use Rattle.shard_calls.specs.Table.{Met, world_after, IsRun}
+use Rattle.shard_calls.specs.Table.{Met, after, world_after, IsRun}
+use Rattle.shard_calls.specs.declared.ending.CommandAnswer.{CommandAnswer}
+use Rattle.planned.specs.Leaving.{leaving}
 use Rattle.planned.specs.Course.{WaitsInTime, may, next, leaves}
 
 -- the clock begins before the year 9999
@@ -48,3 +50,8 @@ pub data Waits (w : World) (c : ℕ) (s : CommandState) : Type 0 where
 -- an open command that may do nothing waits
 abbrev pub NoneBlocks : Config → World → Type 0
 NoneBlocks config w = (c : ℕ) (s : CommandState) → open_command w c ≡ Some s → may config w c ≡ [] → Waits w c s
+
+-- how a command leaves, with whatever answer, changes no tablet and sends nothing
+abbrev pub LeavingIsQuiet : Type 0
+LeavingIsQuiet = (config : Config) (w : World) (c : ℕ) (s : CommandState) (x : CommandAnswer)
+    → ((after config w (leaving c s x)).tablets ≡ w.tablets) × ((after config w (leaving c s x)).post ≡ w.post)

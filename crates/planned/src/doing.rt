@@ -96,6 +96,7 @@ pub(crate) fn does(
         Want::Read => if_met(shard, command, state, Event::Read { command }),
         Want::Intend { alias } => if_met(shard, command, state, Event::Intend { command, alias }),
         Want::Record { alias } => if_met(shard, command, state, Event::Record { command, alias }),
+        Want::Drain { alias } => if_met(shard, command, state, Event::Drain { command, alias }),
         Want::Ask { alias, call } => sent(shard, command, state, alias, call),
         Want::Write { alias } => if_met(shard, command, state, Event::Write { command, alias }),
         Want::Tell => Ok(tells(shard, command)),

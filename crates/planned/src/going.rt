@@ -9,7 +9,8 @@ ghost use Rattle.planned.specs.Course.{may_by, demand_of, state_next, first_of, 
 use crate::doing::{does, if_met};
 use crate::leaving::leaving;
 use crate::waiting::first_given_up;
-use courses::{Demand, demand};
+use courses::Demand;
+use recovery_loop::demand;
 use shard_base::OutOfMemory;
 use shard_calls::{CommandState, Deed, Event, Group};
 use shard_core::Shard;
@@ -77,8 +78,8 @@ fn state_next(
 }
 
 /// What an open command does next, if it has anything to do: what its course demands by what it did and what its calls came to, as a command of
-/// vtctldclient (Vitess manual), or as a client of MySQL. While it waits for calls, it gives up the first that it may. Where a step that it is to
-/// make cannot be made, it leaves as for want of memory.
+/// vtctldclient or VTOrc (Vitess manual), or as a client of MySQL. While it waits for calls, it gives up the first that it may. Where a step that
+/// it is to make cannot be made, it leaves as for want of memory.
 ///
 /// The only error is want of memory. It costs one walk along what the command did, with what each call came to.
 pub fn next(shard: &Shard, command: u64) -> Result<Option<Event>, OutOfMemory>

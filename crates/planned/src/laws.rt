@@ -1,6 +1,6 @@
 //! What holds of what commands do next. The functions do nothing: each one's contract is a law.
 
-ghost use Rattle.planned.specs.Laws.{OfEveryWorld, AllWaitInTime, MayIsMet, NextIsMet, LeavingIsMet, NoneBlocks};
+ghost use Rattle.planned.specs.Laws.{OfEveryWorld, AllWaitInTime, MayIsMet, NextIsMet, LeavingIsMet, LeavingIsQuiet, NoneBlocks};
 ghost use Rattle.planned.specs.Follows.{MayIsOwn, LeavingIsOwn, CourseIsMet, NextKeeps, LeavingKeeps, OthersKeep};
 ghost use Rattle.planned.specs.Pending.{ActorsFitAlways};
 
@@ -13,6 +13,11 @@ pub fn next_is_met()
 /// So does that by which an open command leaves.
 pub fn leaving_is_met()
     ensures { LeavingIsMet }
+{}
+
+/// How a command leaves, with whatever answer, changes no tablet and sends nothing: what it did before it was refused stays as it is.
+pub fn leaving_is_quiet()
+    ensures { LeavingIsQuiet }
 {}
 
 /// In every history, an open command that may do nothing waits for a call of its own, or to be told of what it wrote.

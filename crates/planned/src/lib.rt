@@ -11,6 +11,6 @@ mod waiting;
 pub use going::next;
 pub use laws::{
     actors_fit, commands_keep_to_courses, course_is_met, courses_are_own, leaving_is_met,
-    next_is_met, none_blocks, waits_end_in_time,
+    leaving_is_quiet, next_is_met, none_blocks, waits_end_in_time,
 };
 pub use leaving::leaves;

@@ -33,6 +33,7 @@ fn give_up_of(shard: &Shard, command: u64, deed: &Deed) -> Option<Event>
         Deed::Read { .. } => None,
         Deed::Intended { .. } => None,
         Deed::Recorded { .. } => None,
+        Deed::Drained { .. } => None,
         Deed::Wrote { .. } => None,
         Deed::Told { .. } => None,
     }

@@ -352,6 +352,10 @@ pub fn refusal_by_topology(deed: &Deed) -> Option<Refusal>
             reply: Err(term),
             ..
         } => Some(Refusal::LockLost { term: *term }),
+        Deed::Drained {
+            reply: Err(term),
+            ..
+        } => Some(Refusal::LockLost { term: *term }),
         _ => None,
     }
 }

@@ -10,7 +10,7 @@ use Rattle.shard_names.specs.declared.alias.Alias.{Alias}
 use Rattle.shard_names.specs.declared.tablet.Tablet.{Tablet}
 use Rattle.shard_names.specs.Tablets.{tablet_of, is_declared}
 use Rattle.shard_names.proofs.TabletLemmas.{both_left, both_right}
-use Rattle.topo_lock.specs.Topology.{Topology, is_held_in, answer_take, answer_intend, answer_record}
+use Rattle.topo_lock.specs.Topology.{Topology, is_held_in, answer_take, answer_intend, answer_record, answer_drain}
 use Rattle.topo_lock.specs.declared.lock.LockTaken.{LockTaken}
 use Rattle.topo_lock.specs.declared.lock.TopoFault.{TopoFault}
 use Rattle.topo_lock.specs.declared.lock.TopoFault.TheVariants as faults
@@ -34,12 +34,12 @@ use Rattle.shard_calls.specs.Tablets.{TabletState}
 use Rattle.shard_calls.specs.World.{Config, World, opening, changed_at, numbered, on_message, arrives, with_act, if_open, open_command, term_in, term_of, is_eligible_alias}
 use Rattle.shard_calls.specs.Messages.{why_given_up, offer_to}
 use Rattle.shard_calls.specs.Begins.{ends_by}
-use Rattle.shard_calls.specs.Locks.{seen_of, takes_by, took_nothing, taken_reply, with_taken, by_term, reads, read_reply, read_act, topo_reply, with_intended, intends_in, with_recorded, records_in, may_record, as_released, releases_in}
+use Rattle.shard_calls.specs.Locks.{seen_of, takes_by, took_nothing, taken_reply, with_taken, by_term, reads, read_reply, read_act, topo_reply, with_intended, intends_in, with_recorded, records_in, may_record, with_drained, drains_in, as_released, releases_in}
 use Rattle.shard_calls.specs.Deliveries.{if_declared, asked, fed, feed_verdict, after_arrival, after_delivery, gives_up, offers, may_send}
 use Rattle.shard_calls.specs.Writes.{write_reply, may_write, writes_in, writes_at, write_verdict, with_written, written_reply, tell_of, tells}
 use Rattle.shard_calls.specs.Table.{Met, answer, after, world_after, IsRunFrom}
 use Rattle.shard_calls.specs.RunLaws.{OfEveryRun}
-use Rattle.shard_calls.specs.Answered.{taken_by_reply, read_by_reply, intended_by_reply, recorded_by_reply, written_by_reply, told_by_reply, if_own, act_of, acts_of, ActsAreSteps}
+use Rattle.shard_calls.specs.Answered.{taken_by_reply, read_by_reply, intended_by_reply, recorded_by_reply, drained_by_reply, written_by_reply, told_by_reply, if_own, act_of, acts_of, ActsAreSteps}
 use Rattle.shard_calls.proofs.ListLemmas.{numbered_changed, numbered_other}
 
 -- ---- one command among them
@@ -160,6 +160,18 @@ record_acts w d c a (Some t) term met =
     does s (Err (faults.LockLost current)) = refl
     does s (Err (faults.IntentStands b)) = sym (append-nil s.acts)
 
+drain_acts : (w : World) (d c : ℕ) (a : Alias) (o : Option ℕ) → term_of w d ≡ o → is_some o ≡ true
+    → Grow w.commands (by_term o w (drains_in w d a)).commands c (if_own d c (drained_by_reply a (by_term o replies.Ok (λ t. topo_reply (answer_drain w.topo t)))))
+drain_acts w d c a None term met = absurd (false≢true met)
+drain_acts w d c a (Some t) term met =
+    let s = term_is (numbered w.commands d) t term in
+    one_acts w.commands d c (with_drained a (answer_drain w.topo t)) s.0 _ s.1 (does s.0 (answer_drain w.topo t))
+  where
+    does : (s : CommandState) (r : Result (Unit {0}) TopoFault) → (with_drained a r s).acts ≡ s.acts ++ option_to_list (drained_by_reply a (topo_reply r))
+    does s (Ok u) = refl
+    does s (Err (faults.LockLost current)) = refl
+    does s (Err (faults.IntentStands b)) = sym (append-nil s.acts)
+
 release_acts : (w : World) (d c : ℕ) (o : Option ℕ) → Grow w.commands (by_term o w (releases_in w d)).commands c None
 release_acts w d c None = same_acts w.commands c
 release_acts w d c (Some t) = keep_acts w.commands d c as_released (λ s. refl)
@@ -263,6 +275,8 @@ grows config w (events.Read d) c met = read_acts w d c (term_of w d) refl met
 grows config w (events.Intend d a) c met = intend_acts w d c a (term_of w d) refl (both_left (is_some (term_of w d)) (is_eligible_alias config a) met)
 grows config w (events.Record d a) c met =
     record_acts w d c a (term_of w d) refl (both_right (is_declared config.tablets a) (by_term (term_of w d) false (may_record w.topo a)) met)
+grows config w (events.Drain d a) c met =
+    drain_acts w d c a (term_of w d) refl (both_right (is_declared config.tablets a) (is_some (term_of w d)) met)
 grows config w (events.Release d) c met = release_acts w d c (term_of w d)
 grows config w events.Lapse c met = same_acts w.commands c
 grows config w (events.Send d a call) c met =

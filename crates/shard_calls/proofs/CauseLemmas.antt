@@ -1,8 +1,8 @@
 -- What the cause of an answer says: that a write was written, and that a promotion put its row into the log.
-use Rattle.std.proofs.Common.{◌≡◌, ℕ, Bool, true, false, ◌&&◌, ◌||◌, ◌==◌, refl, ap, sym, subst, ◌∙◌, arith, List, [], ◌∷◌, Option, Some, None}
+use Rattle.std.proofs.Common.{◌≡◌, ℕ, Bool, true, false, ◌&&◌, ◌||◌, ◌==◌, refl, ap, sym, subst, ◌∙◌, arith, List, [], ◌∷◌, ◌++◌, map, cond, Option, Some, None, Result, Ok, Err}
 use Rattle.std.proofs.lemmas.Bool.{false≢true}
 use Rattle.std.proofs.lemmas.Bool.Decides.{nat_tests}
-use Rattle.std.specs.List.{list_any, filter_map, cons_option}
+use Rattle.std.specs.List.{list_any, filter_map, flat_map, cons_option}
 use Rattle.shard_base.specs.Options.{◌>>=◌}
 use Rattle.shard_names.specs.declared.alias.Alias.{Alias}
 use Rattle.shard_names.specs.Tablets.{alias_eq}
@@ -11,6 +11,7 @@ use Rattle.gtid_sets.specs.declared.gtid.Gtid.{Gtid}
 use Rattle.gtid_sets.specs.Gtid.{gtid_eq}
 use Rattle.gtid_sets.specs.Position.{Position}
 use Rattle.gtid_sets.proofs.GtidLemmas.{gtid_eq_is}
+use Rattle.topo_lock.specs.declared.intent.Record.{Record}
 use Rattle.shard_calls.specs.declared.answer.Answer.{Answer}
 use Rattle.shard_calls.specs.declared.answer.Answer.TheVariants as says
 use Rattle.shard_calls.specs.declared.call.Call.{Call}
@@ -18,7 +19,13 @@ use Rattle.shard_calls.specs.declared.call.Call.TheVariants as calls
 use Rattle.shard_calls.specs.declared.command.Command.{Command}
 use Rattle.shard_calls.specs.declared.command.Command.TheVariants as commands
 use Rattle.shard_calls.specs.declared.ending.CommandAnswer.TheVariants as answers
+use Rattle.shard_calls.specs.declared.analysis.Finding.{Finding}
+use Rattle.shard_calls.specs.declared.ending.Left.{Left}
 use Rattle.shard_calls.specs.declared.ending.NotJoined.{NotJoined}
+use Rattle.shard_calls.specs.declared.ending.Rest.{Rest}
+use Rattle.shard_calls.specs.declared.ending.Rest.TheVariants as lines
+use Rattle.shard_calls.specs.declared.event.Seen.{Seen}
+use Rattle.shard_calls.specs.declared.group.Group.{Group}
 use Rattle.shard_calls.specs.declared.post.Content.{Content}
 use Rattle.shard_calls.specs.declared.post.Content.TheVariants as contents
 use Rattle.shard_calls.specs.declared.post.Message.{Message}
@@ -30,15 +37,19 @@ use Rattle.shard_calls.specs.declared.state.CommandState.{CommandState}
 use Rattle.shard_calls.specs.declared.state.Wrote.{Wrote}
 use Rattle.gtid_sets.specs.Logs.{has_row}
 use Rattle.shard_calls.specs.declared.span.Deed.{Deed}
+use Rattle.shard_calls.specs.declared.span.Deed.TheVariants as deeds
 use Rattle.shard_calls.specs.declared.span.Kind.{Kind}
 use Rattle.shard_calls.specs.declared.span.Kind.TheVariants as kinds
 use Rattle.shard_calls.specs.declared.span.Outcome.{Outcome}
 use Rattle.shard_calls.specs.declared.span.Outcome.TheVariants.{Answered, GivenUp}
+use Rattle.shard_calls.specs.Analysis.{finds, is_orphaned, is_urgent, problems}
+use Rattle.shard_calls.specs.Choosing.{are_settled}
 use Rattle.shard_calls.specs.Kinds.{kind_of, kind_eq}
 use Rattle.shard_calls.specs.Outcomes.{answer_in, outcome_by, outcome_of}
+use Rattle.shard_calls.specs.Same.{findings_eq, lines_eq}
 use Rattle.shard_calls.specs.Spans.{asked_by, deed_if_asked, deed_of, span_in, term_wrote}
-use Rattle.shard_calls.specs.Causes.{is_some_of, outcome_passes, is_promoted_answer, is_told_answer, said_in, any_said_in, leaves_out, is_promoted, wrote_this, is_told_act, has_command_cause, has_cause}
-use Rattle.shard_calls.specs.World.{Config, World, numbered}
+use Rattle.shard_calls.specs.Causes.{is_some_of, outcome_passes, is_promoted_answer, is_told_answer, said_in, any_said_in, leaves_out, is_promoted, wrote_this, is_told_act, left_by, calls_of, is_set_source_kind, findings_of, joined_or_left, line_of_call, line_of, lines_beside, are_lines_of, is_watched, has_command_cause, has_cause}
+use Rattle.shard_calls.specs.World.{Config, World, group_of, numbered}
 use Rattle.shard_calls.proofs.WorldLemmas.{IsSoundWorld, IsIntended, Fits}
 use Rattle.shard_calls.proofs.SettleLemmas.{settled_in}
 use Rattle.shard_calls.proofs.ToldLemmas.{RowIfPromoted, AnswerFits, Answering, IsTellingWorld}
@@ -49,6 +60,7 @@ committed_by : (config : Config) (w : World) (s : CommandState) (command : Comma
     → has_command_cause config w s command (answers.Committed g a t) ≡ true → wrote_this s.wrote g a t ≡ true
 committed_by config w s (commands.Planned shard given avoid expected timeout allow_cross_cell) g a t h = absurd (false≢true h)
 committed_by config w s (commands.External b) g a t h = absurd (false≢true h)
+committed_by config w s commands.Vtorc g a t h = absurd (false≢true h)
 committed_by config w s (commands.Write to) g a t h = both_left (wrote_this s.wrote g a t) (list_any is_told_act s.acts) h
 committed_by config w s (commands.Show b) g a t h = absurd (false≢true h)
 committed_by config w s (commands.Emergency shard given ignored expected timeout preventing) g a t h = absurd (false≢true h)
@@ -103,10 +115,104 @@ promoted_by : (config : Config) (w : World) (s : CommandState) (command : Comman
 promoted_by config w s (commands.Write to) a t left h = absurd (false≢true h)
 promoted_by config w s (commands.Show b) a t left h = absurd (false≢true h)
 promoted_by config w s (commands.External b) a t left h = absurd (false≢true h)
+promoted_by config w s commands.Vtorc a t left h = absurd (false≢true h)
 promoted_by config w s (commands.GetShard shard) a t left h = absurd (false≢true h)
 promoted_by config w s (commands.GetTablets shard) a t left h = absurd (false≢true h)
 promoted_by config w s (commands.Planned shard given avoid expected timeout crossing) a t left h = promoted_so s (span_in w.post s) a t left h
 promoted_by config w s (commands.Emergency shard given ignored expected timeout preventing) a t left h = promoted_so s (span_in w.post s) a t left h
+
+-- ---- a promotion that a vtorc made
+
+abbrev is_promotion : Rest → Bool
+is_promotion (lines.Promoted a t left) = true
+is_promotion _ = false
+
+abbrev begins_with_promotion : List Rest → Bool
+begins_with_promotion [] = false
+begins_with_promotion (x ∷ xs) = is_promotion x
+
+-- what equals one line of a promotion begins with a promotion
+equal_begins : (a : Alias) (t : ℕ) (left : List NotJoined) (xs : List Rest) → lines_eq (lines.Promoted a t left ∷ []) xs ≡ true → begins_with_promotion xs ≡ true
+equal_begins a t left [] h = absurd (false≢true h)
+equal_begins a t left (lines.Promoted b u others ∷ xs) h = refl
+equal_begins a t left (lines.Refused r tried ∷ xs) h = absurd (false≢true h)
+equal_begins a t left (lines.Joined b p ∷ xs) h = absurd (false≢true h)
+equal_begins a t left (lines.Left b why ∷ xs) h = absurd (false≢true h)
+equal_begins a t left (lines.Drained b ∷ xs) h = absurd (false≢true h)
+
+append_begins : (xs ys : List Rest) → begins_with_promotion xs ≡ false → begins_with_promotion ys ≡ false → begins_with_promotion (xs ++ ys) ≡ false
+append_begins [] ys first then = then
+append_begins (x ∷ xs) ys first then = first
+
+call_begins : (p a : Alias) (o : Option Outcome) → begins_with_promotion (line_of_call p a o) ≡ false
+call_begins p a None = refl
+call_begins p a (Some o) = of_left (left_by o)
+  where
+    of_left : (x : Option Left) → is_promotion (joined_or_left p a x) ≡ false
+    of_left None = refl
+    of_left (Some left) = refl
+
+line_begins : (p : Alias) (d : Deed) → begins_with_promotion (line_of p d) ≡ false
+line_begins p (deeds.Took (Ok t)) = refl
+line_begins p (deeds.Took (Err held)) = refl
+line_begins p (deeds.Read reply) = refl
+line_begins p (deeds.Intended a reply) = refl
+line_begins p (deeds.Recorded a reply) = refl
+line_begins p (deeds.Drained a (Ok x)) = refl
+line_begins p (deeds.Drained a (Err t)) = refl
+line_begins p (deeds.Asked x) = of_test (is_set_source_kind x.kind)
+  where
+    of_test : (b : Bool) → begins_with_promotion (cond b (line_of_call p x.alias x.outcome) []) ≡ false
+    of_test true = call_begins p x.alias x.outcome
+    of_test false = refl
+line_begins p (deeds.Wrote a reply) = refl
+line_begins p (deeds.Told committed) = refl
+
+-- none of the lines of repairs is a promotion
+repairs_begin : (p : Alias) (span : List Deed) → begins_with_promotion (flat_map (line_of p) span) ≡ false
+repairs_begin p [] = refl
+repairs_begin p (d ∷ span) = append_begins (line_of p d) (flat_map (line_of p) span) (line_begins p d) (repairs_begin p span)
+
+beside_begins : (o : Option Record) (span : List Deed) → begins_with_promotion (lines_beside o span) ≡ false
+beside_begins None span = refl
+beside_begins (Some r) span = repairs_begin r.alias span
+
+-- where a tablet was promoted, a reparent did it
+lines_so : (g : Group) (seen : Seen) (s : CommandState) (span : List Deed) (found : List Finding) (a : Alias) (t : ℕ) (left : List NotJoined)
+    → are_lines_of g seen s span found (lines.Promoted a t left ∷ []) ≡ true → is_promoted s span a t left ≡ true
+lines_so g seen s span found a t left h = of_tests (finds is_orphaned found) (finds is_urgent found) h
+  where
+    of_tests : (b c : Bool)
+        → cond b (is_promoted s span a t left)
+        (cond c (is_promoted s span a t left) (lines_eq (lines.Promoted a t left ∷ []) (lines_beside seen.recorded span))) ≡ true
+        → is_promoted s span a t left ≡ true
+    of_tests true c k = k
+    of_tests false true k = k
+    of_tests false false k =
+        absurd (false≢true (sym (beside_begins seen.recorded span) ∙ equal_begins a t left (lines_beside seen.recorded span) k))
+
+watched_so : (g : Group) (s : CommandState) (span : List Deed) (findings : List Finding) (a : Alias) (t : ℕ) (left : List NotJoined)
+    → is_watched g s span findings (lines.Promoted a t left ∷ []) ≡ true → is_promoted s span a t left ≡ true
+watched_so g s span findings a t left h =
+    let found : List Finding = findings_of g s.opening.seen (calls_of kinds.Status span) in
+    lines_so g s.opening.seen s span found a t left
+    (both_right (are_settled (map (λ x. x.alias) g.tablets) (calls_of kinds.Status span) && findings_eq findings (problems found))
+    (are_lines_of g s.opening.seen s span found (lines.Promoted a t left ∷ [])) h)
+
+watched_by : (config : Config) (w : World) (s : CommandState) (command : Command) (findings : List Finding) (a : Alias) (t : ℕ) (left : List NotJoined)
+    → has_command_cause config w s command (answers.Vtorc findings (lines.Promoted a t left ∷ [])) ≡ true
+    → any_said_in t kinds.Promote a is_promoted_answer (span_in w.post s) ≡ true
+watched_by config w s (commands.Planned shard given avoid expected timeout crossing) findings a t left h = absurd (false≢true h)
+watched_by config w s (commands.Emergency shard given ignored expected timeout preventing) findings a t left h = absurd (false≢true h)
+watched_by config w s (commands.External b) findings a t left h = absurd (false≢true h)
+watched_by config w s commands.Vtorc findings a t left h =
+    promoted_so s (span_in w.post s) a t left (watched_so (group_of config) s (span_in w.post s) findings a t left h)
+watched_by config w s (commands.Write to) findings a t left h = absurd (false≢true h)
+watched_by config w s (commands.Show b) findings a t left h = absurd (false≢true h)
+watched_by config w s (commands.GetShard shard) findings a t left h = absurd (false≢true h)
+watched_by config w s (commands.GetTablets shard) findings a t left h = absurd (false≢true h)
+
+-- ---- what was said is in the post
 
 any_deed : (p : Deed → Bool) (f : Act → Option Deed) (done : List Act) → list_any p (filter_map f done) ≡ true
     → (act : Act) × (d : Deed) × (f act ≡ Some d) × (p d ≡ true)
@@ -183,6 +289,7 @@ said_of post u t kind a test (acts.Took reply) h = absurd (false≢true h)
 said_of post u t kind a test (acts.Read reply) h = absurd (false≢true h)
 said_of post u t kind a test (acts.Intended b reply) h = absurd (false≢true h)
 said_of post u t kind a test (acts.Recorded b reply) h = absurd (false≢true h)
+said_of post u t kind a test (acts.Drained b reply) h = absurd (false≢true h)
 said_of post u t kind a test (acts.Sent k) h = said_at post k t (numbered post k) kind a test refl h
 said_of post u t kind a test (acts.Wrote b reply) h = absurd (false≢true h)
 said_of post u t kind a test (acts.Told committed) h = absurd (false≢true h)
@@ -302,3 +409,9 @@ pub promoted_has_row : (config : Config) (w : World) (o : Option CommandState) (
 promoted_has_row config w None a t left sound telling h = absurd (false≢true h)
 promoted_has_row config w (Some s) a t left sound telling h =
     said_row w a t sound telling (was_said w.post s t kinds.Promote a is_promoted_answer (promoted_by config w s s.command a t left h))
+
+pub watched_has_row : (config : Config) (w : World) (o : Option CommandState) (findings : List Finding) (a : Alias) (t : ℕ) (left : List NotJoined) → IsSoundWorld w
+    → IsTellingWorld w → has_cause config w o (answers.Vtorc findings (lines.Promoted a t left ∷ [])) ≡ true → IsRowThere w a t
+watched_has_row config w None findings a t left sound telling h = absurd (false≢true h)
+watched_has_row config w (Some s) findings a t left sound telling h =
+    said_row w a t sound telling (was_said w.post s t kinds.Promote a is_promoted_answer (watched_by config w s s.command findings a t left h))

@@ -19,7 +19,7 @@ use Rattle.shard_calls.specs.Tablets.{TabletState}
 use Rattle.shard_calls.specs.World.{Config, World, group_of, opening, on_message, arrives, numbered, open_command, term_of}
 use Rattle.shard_calls.specs.Messages.{why_given_up, offer_to}
 use Rattle.shard_calls.specs.Begins.{ends_by}
-use Rattle.shard_calls.specs.Locks.{takes_by, by_term, reads, intends_in, records_in, releases_in}
+use Rattle.shard_calls.specs.Locks.{takes_by, by_term, reads, intends_in, records_in, drains_in, releases_in}
 use Rattle.shard_calls.specs.Deliveries.{after_delivery, after_arrival, asked, fed, feed_verdict, if_declared, gives_up, offers}
 use Rattle.shard_calls.specs.Writes.{writes_in, writes_at, tell_of, told_act, with_told}
 use Rattle.shard_calls.specs.Table.{after, world_after}
@@ -80,6 +80,7 @@ group_stays config w (events.Take c) = take_same w c (open_command w c)
 group_stays config w (events.Read c) = by_same w (reads w c) (term_of w c) (λ t. refl)
 group_stays config w (events.Intend c a) = by_same w (intends_in w c a) (term_of w c) (λ t. refl)
 group_stays config w (events.Record c a) = by_same w (records_in w c a) (term_of w c) (λ t. refl)
+group_stays config w (events.Drain c a) = by_same w (drains_in w c a) (term_of w c) (λ t. refl)
 group_stays config w (events.Release c) = by_same w (releases_in w c) (term_of w c) (λ t. refl)
 group_stays config w events.Lapse = refl
 group_stays config w (events.Send c a call) = refl

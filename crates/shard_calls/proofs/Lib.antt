@@ -4,6 +4,7 @@ pub mod LawLemmas
 pub mod ListLemmas
 pub mod Examples
 pub mod ReparentExamples
+pub mod WatchExamples
 pub mod TouchLemmas
 pub mod PostLemmas
 pub mod LogChangeLemmas

@@ -17,7 +17,7 @@ use Rattle.shard_calls.specs.declared.why.Why.{Why}
 use Rattle.shard_calls.specs.Tablets.{accepts}
 use Rattle.shard_calls.specs.World.{Config, World, on_message, arrives, vanishes, settles, numbered, changed_at, open_command, term_of}
 use Rattle.shard_calls.specs.Messages.{why_by, why_given_up, offer_to}
-use Rattle.shard_calls.specs.Locks.{reads, intends_in, records_in, releases_in}
+use Rattle.shard_calls.specs.Locks.{reads, intends_in, records_in, drains_in, releases_in}
 use Rattle.shard_calls.specs.Deliveries.{after_arrival, after_delivery, gives_up, why_reply}
 use Rattle.shard_calls.specs.Writes.{told_act, tell_of}
 use Rattle.shard_calls.specs.Table.{after, answer, world_after, IsRunFrom}
@@ -114,6 +114,7 @@ exact config w (events.Take c) k telling = unchanged w _ k (post_take w c (open_
 exact config w (events.Read c) k telling = unchanged w _ k (post_by w (reads w c) (term_of w c) (λ t. refl))
 exact config w (events.Intend c a) k telling = unchanged w _ k (post_by w (intends_in w c a) (term_of w c) (λ t. refl))
 exact config w (events.Record c a) k telling = unchanged w _ k (post_by w (records_in w c a) (term_of w c) (λ t. refl))
+exact config w (events.Drain c a) k telling = unchanged w _ k (post_by w (drains_in w c a) (term_of w c) (λ t. refl))
 exact config w (events.Release c) k telling = unchanged w _ k (post_by w (releases_in w c) (term_of w c) (λ t. refl))
 exact config w events.Lapse k telling = unchanged w _ k refl
 exact config w (events.Send c a call) k telling = nothing w _ k (push_settled w.post _ k refl)

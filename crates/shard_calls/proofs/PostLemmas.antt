@@ -21,7 +21,7 @@ use Rattle.shard_calls.specs.Tablets.{answer_to, accepts}
 use Rattle.shard_calls.specs.World.{Config, World, on_message, arrives, vanishes, settles, numbered, changed_at, open_command, term_of}
 use Rattle.shard_calls.specs.Messages.{why_given_up, offer_to}
 use Rattle.shard_calls.specs.Begins.{ends_by}
-use Rattle.shard_calls.specs.Locks.{takes_by, by_term, reads, intends_in, records_in, releases_in}
+use Rattle.shard_calls.specs.Locks.{takes_by, by_term, reads, intends_in, records_in, drains_in, releases_in}
 use Rattle.shard_calls.specs.Deliveries.{after_delivery, after_arrival, asked, fed, if_declared, gives_up, offers, call_of}
 use Rattle.shard_calls.specs.Writes.{writes_in, writes_at, tell_of, told_act, with_told}
 use Rattle.shard_calls.specs.Table.{after}
@@ -167,6 +167,7 @@ post_cases config w (events.Take c) n m here = same_post config w (events.Take c
 post_cases config w (events.Read c) n m here = same_post config w (events.Read c) _ n m (post_by w (reads w c) (term_of w c) (λ t. refl)) here
 post_cases config w (events.Intend c a) n m here = same_post config w (events.Intend c a) _ n m (post_by w (intends_in w c a) (term_of w c) (λ t. refl)) here
 post_cases config w (events.Record c a) n m here = same_post config w (events.Record c a) _ n m (post_by w (records_in w c a) (term_of w c) (λ t. refl)) here
+post_cases config w (events.Drain c a) n m here = same_post config w (events.Drain c a) _ n m (post_by w (drains_in w c a) (term_of w c) (λ t. refl)) here
 post_cases config w (events.Release c) n m here = same_post config w (events.Release c) _ n m (post_by w (releases_in w c) (term_of w c) (λ t. refl)) here
 post_cases config w events.Lapse n m here = inl (keeps w n m here)
 post_cases config w (events.Send c a call) n m here = sent_post config w (events.Send c a call) _ n m (Asked c a call) here

@@ -40,13 +40,16 @@ use Rattle.shard_calls.specs.Table.{after, IsStep, IsRunFrom, IsRun, world_after
 use Rattle.shard_calls.specs.Promotions.{world_at, IsNewIn, IsPromotion, OnePromotion, PromotesIntended, TellsAt, ToWrite, ToWait, IsWriteOf, IsToldBy, told_at, KeepsTold}
 use Rattle.shard_calls.specs.Answered.{AnswersHaveCauses, first_of, first_settling, OutcomesAreSteps}
 use Rattle.shard_calls.specs.RunLaws.{OfEveryShard, OneEntry, LogsAreClosed, AcksAreHeld, NotedIsHeld, OfEveryRun, TabletsMove, TopologyMoves, TabletsAreSound, TermNeverFalls, OneIntent, LogsOnlyGrow}
+use Rattle.shard_calls.specs.declared.analysis.Finding.{Finding}
 use Rattle.shard_calls.specs.declared.ending.CommandAnswer.{CommandAnswer}
 use Rattle.shard_calls.specs.declared.ending.CommandAnswer.TheVariants as ends
 use Rattle.shard_calls.specs.declared.ending.NotJoined.{NotJoined}
+use Rattle.shard_calls.specs.declared.ending.Rest.{Rest}
+use Rattle.shard_calls.specs.declared.ending.Rest.TheVariants as lines
 use Rattle.gtid_sets.specs.declared.gtid.Gtid.{Gtid}
 use Rattle.shard_calls.specs.Causes.{has_cause}
 use Rattle.shard_calls.proofs.ActLemmas.{if_open_is}
-use Rattle.shard_calls.proofs.CauseLemmas.{committed_is_written, promoted_has_row}
+use Rattle.shard_calls.proofs.CauseLemmas.{committed_is_written, IsRowThere, promoted_has_row, watched_has_row}
 use Rattle.shard_calls.proofs.WroteLemmas.{wrote_in, WroteFits, AllWroteFits, wrote_after, wrote_opening}
 use Rattle.shard_calls.proofs.ToldLemmas.{IsTellingWorld, telling_after, telling_opening, row_longer}
 use Rattle.shard_calls.proofs.LawLemmas.{chosen}
@@ -426,15 +429,34 @@ committed_in config w c g a t fits h =
     in_place (ends.Committed g a t) (w.tablets a).log is.wrote.index there.entry told
     (subst (λ (b : Alias). numbered (w.tablets b).log is.wrote.index ≡ Some there.entry) is.alias there.at)
 
-promoted_in : (config : Config) (w : World) (c : ℕ) (a : Alias) (t : ℕ) (left : List NotJoined) → IsSoundWorld w → IsTellingWorld w
-    → has_cause config w (open_command w c) (ends.Promoted a t left) ≡ true → TellsIn (ends.Promoted a t left) (w.tablets a).log
-promoted_in config w c a t left sound telling h =
-    let is = promoted_has_row config w (open_command w c) a t left sound telling h in
+-- the row that a promotion put into the log of its tablet
+row_in : (w : World) (a : Alias) (t : ℕ) → IsSoundWorld w → IsRowThere w a t
+    → (n : ℕ) × (e : Entry) × (e.kind ≡ kinds.Row t a) × (slice_get (w.tablets a).log n ≡ Some e)
+row_in w a t sound is =
     let row = row_found (w.tablets a).log t is.row in
     let kind = row_kind row.1.kind t row.3 in
     let named : IsIntended w.topo t kind.0 = (sound.rows a row.0 row.1 t kind.0 row.2 kind.1).intended in
     let same : kind.0 ≡ a = same_intent t kind.0 a (sym named.intent ∙ is.intended.intent) in
     (row.0, row.1, kind.1 ∙ ap (λ (b : Alias). kinds.Row t b) same, row.2)
+
+promoted_in : (config : Config) (w : World) (c : ℕ) (a : Alias) (t : ℕ) (left : List NotJoined) → IsSoundWorld w → IsTellingWorld w
+    → has_cause config w (open_command w c) (ends.Promoted a t left) ≡ true → TellsIn (ends.Promoted a t left) (w.tablets a).log
+promoted_in config w c a t left sound telling h = row_in w a t sound (promoted_has_row config w (open_command w c) a t left sound telling h)
+
+-- of a vtorc whose one line is a promotion
+watched_in : (config : Config) (w : World) (c : ℕ) (findings : List Finding) (rest : List Rest) (a : Alias) → IsTruthful w
+    → has_cause config w (open_command w c) (ends.Vtorc findings rest) ≡ true → told_at (ends.Vtorc findings rest) ≡ Some a
+    → TellsIn (ends.Vtorc findings rest) (w.tablets a).log
+watched_in config w c findings [] a truth h is = absurd (let none : None ≡ Some a = is in cc)
+watched_in config w c findings (lines.Promoted b t left ∷ []) a truth h is =
+    let same : b ≡ a = (let some : Some b ≡ Some a = is in cc) in
+    subst (λ (d : Alias). TellsIn (ends.Vtorc findings (lines.Promoted b t left ∷ [])) (w.tablets d).log) same
+    (row_in w b t truth.sound (watched_has_row config w (open_command w c) findings b t left truth.sound truth.telling h))
+watched_in config w c findings (lines.Promoted b t left ∷ x ∷ rest) a truth h is = absurd (let none : None ≡ Some a = is in cc)
+watched_in config w c findings (lines.Refused r tried ∷ rest) a truth h is = absurd (let none : None ≡ Some a = is in cc)
+watched_in config w c findings (lines.Joined b p ∷ rest) a truth h is = absurd (let none : None ≡ Some a = is in cc)
+watched_in config w c findings (lines.Left b why ∷ rest) a truth h is = absurd (let none : None ≡ Some a = is in cc)
+watched_in config w c findings (lines.Drained b ∷ rest) a truth h is = absurd (let none : None ≡ Some a = is in cc)
 
 tells_in : (config : Config) (w : World) (c : ℕ) (x : CommandAnswer) (a : Alias) → IsTruthful w → has_cause config w (open_command w c) x ≡ true → told_at x ≡ Some a
     → TellsIn x (w.tablets a).log
@@ -444,6 +466,7 @@ tells_in config w c (ends.Promoted b t left) a truth h is =
 tells_in config w c (ends.NothingToDo b) a truth h is = absurd (let none : None ≡ Some a = is in cc)
 tells_in config w c (ends.Recorded t) a truth h is = absurd (let none : None ≡ Some a = is in cc)
 tells_in config w c (ends.Refused refusal tried) a truth h is = absurd (let none : None ≡ Some a = is in cc)
+tells_in config w c (ends.Vtorc findings rest) a truth h is = watched_in config w c findings rest a truth h is
 tells_in config w c (ends.Committed g b t) a truth h is =
     let same : b ≡ a = (let some : Some b ≡ Some a = is in cc) in
     subst (λ (d : Alias). TellsIn (ends.Committed g b t) (w.tablets d).log) same (committed_in config w c g b t truth.wrote h)

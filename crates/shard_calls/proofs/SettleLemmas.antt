@@ -20,7 +20,7 @@ use Rattle.shard_calls.specs.declared.why.Why.{Why}
 use Rattle.shard_calls.specs.Tablets.{TabletState, accepts}
 use Rattle.shard_calls.specs.World.{Config, World, on_message, arrives, vanishes, settles, numbered, changed_at, open_command, term_of}
 use Rattle.shard_calls.specs.Messages.{why_given_up, offer_to}
-use Rattle.shard_calls.specs.Locks.{reads, intends_in, records_in, releases_in}
+use Rattle.shard_calls.specs.Locks.{reads, intends_in, records_in, drains_in, releases_in}
 use Rattle.shard_calls.specs.Deliveries.{if_declared, asked, fed, after_arrival, after_delivery, gives_up, offers}
 use Rattle.shard_base.specs.Options.{◌>>=◌}
 use Rattle.shard_calls.specs.Writes.{told_act, tell_of}
@@ -225,6 +225,7 @@ settled_cases config w (events.Take c) k = same_settled w (events.Take c) _ k (p
 settled_cases config w (events.Read c) k = same_settled w (events.Read c) _ k (post_by w (reads w c) (term_of w c) (λ t. refl))
 settled_cases config w (events.Intend c a) k = same_settled w (events.Intend c a) _ k (post_by w (intends_in w c a) (term_of w c) (λ t. refl))
 settled_cases config w (events.Record c a) k = same_settled w (events.Record c a) _ k (post_by w (records_in w c a) (term_of w c) (λ t. refl))
+settled_cases config w (events.Drain c a) k = same_settled w (events.Drain c a) _ k (post_by w (drains_in w c a) (term_of w c) (λ t. refl))
 settled_cases config w (events.Release c) k = same_settled w (events.Release c) _ k (post_by w (releases_in w c) (term_of w c) (λ t. refl))
 settled_cases config w events.Lapse k = inl refl
 settled_cases config w (events.Send c a call) k = inl (push_settled w.post _ k refl)
@@ -248,6 +249,7 @@ post_stays config w (events.Take c) = stay_equal w.post _ (post_take w c (open_c
 post_stays config w (events.Read c) = stay_equal w.post _ (post_by w (reads w c) (term_of w c) (λ t. refl))
 post_stays config w (events.Intend c a) = stay_equal w.post _ (post_by w (intends_in w c a) (term_of w c) (λ t. refl))
 post_stays config w (events.Record c a) = stay_equal w.post _ (post_by w (records_in w c a) (term_of w c) (λ t. refl))
+post_stays config w (events.Drain c a) = stay_equal w.post _ (post_by w (drains_in w c a) (term_of w c) (λ t. refl))
 post_stays config w (events.Release c) = stay_equal w.post _ (post_by w (releases_in w c) (term_of w c) (λ t. refl))
 post_stays config w events.Lapse = stay_same w.post
 post_stays config w (events.Send c a call) = stay_push w.post _

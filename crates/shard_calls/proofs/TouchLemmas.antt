@@ -7,7 +7,7 @@ use Rattle.shard_names.specs.Tablets.{alias_eq, tablet_of}
 use Rattle.shard_names.proofs.TabletLemmas.{alias_eq_is}
 use Rattle.gtid_sets.specs.declared.entry.Entry.{Entry}
 use Rattle.topo_lock.specs.Topology.{Topology}
-use Rattle.topo_lock.specs.Moves.{TopoMove, Takes, Intends, Records, Releases, Lapses, Stays}
+use Rattle.topo_lock.specs.Moves.{TopoMove, Takes, Intends, Records, Drains, Releases, Lapses, Stays}
 use Rattle.shard_calls.specs.declared.call.Call.{Call}
 use Rattle.shard_calls.specs.declared.event.Event.{Event}
 use Rattle.shard_calls.specs.declared.event.Event.TheVariants as events
@@ -24,7 +24,7 @@ use Rattle.shard_calls.specs.Tablets.{TabletState, after_call, accepts, after_ac
 use Rattle.shard_calls.specs.World.{Config, World, at_tablet, on_message, arrives, numbered, open_command, term_of}
 use Rattle.shard_calls.specs.Messages.{why_given_up, offer_to}
 use Rattle.shard_calls.specs.Begins.{ends_by}
-use Rattle.shard_calls.specs.Locks.{takes_by, by_term, reads, intends_in, records_in, releases_in}
+use Rattle.shard_calls.specs.Locks.{takes_by, by_term, reads, intends_in, records_in, drains_in, releases_in}
 use Rattle.shard_calls.specs.Deliveries.{after_delivery, after_arrival, asked, fed, feed_verdict, if_declared, gives_up, offers}
 use Rattle.shard_calls.specs.Writes.{writes_in, writes_at, tells, tell_of, told_act, with_told}
 use Rattle.shard_calls.specs.Table.{after}
@@ -168,6 +168,7 @@ touched config w (events.Take c) a = untouched config w a (events.Take c) _ (sam
 touched config w (events.Read c) a = untouched config w a (events.Read c) _ (same_by w (reads w c) a (term_of w c) (λ t. refl))
 touched config w (events.Intend c b) a = untouched config w a (events.Intend c b) _ (same_by w (intends_in w c b) a (term_of w c) (λ t. refl))
 touched config w (events.Record c b) a = untouched config w a (events.Record c b) _ (same_by w (records_in w c b) a (term_of w c) (λ t. refl))
+touched config w (events.Drain c b) a = untouched config w a (events.Drain c b) _ (same_by w (drains_in w c b) a (term_of w c) (λ t. refl))
 touched config w (events.Release c) a = untouched config w a (events.Release c) _ (same_by w (releases_in w c) a (term_of w c) (λ t. refl))
 touched config w events.Lapse a = Untouched
 touched config w (events.Send c b call) a = Untouched
@@ -242,6 +243,7 @@ topo_moves config w (events.Take c) = take_moves w c (open_command w c)
 topo_moves config w (events.Read c) = by_moves w (reads w c) (term_of w c) (λ t. Stays)
 topo_moves config w (events.Intend c a) = by_moves w (intends_in w c a) (term_of w c) (λ t. Intends t a)
 topo_moves config w (events.Record c a) = by_moves w (records_in w c a) (term_of w c) (λ t. Records t w.clock)
+topo_moves config w (events.Drain c a) = by_moves w (drains_in w c a) (term_of w c) (λ t. Drains t a)
 topo_moves config w (events.Release c) = by_moves w (releases_in w c) (term_of w c) (λ t. Releases t)
 topo_moves config w events.Lapse = Lapses
 topo_moves config w (events.Send c a call) = Stays

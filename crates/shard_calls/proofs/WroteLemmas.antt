@@ -8,7 +8,7 @@ use Rattle.shard_names.specs.Tablets.{tablet_of}
 use Rattle.shard_names.proofs.TabletLemmas.{alias_eq_itself}
 use Rattle.gtid_sets.specs.declared.entry.Entry.{Entry}
 use Rattle.gtid_sets.specs.declared.entry.Kind.TheVariants as kinds
-use Rattle.topo_lock.specs.Topology.{answer_take, answer_intend, answer_record}
+use Rattle.topo_lock.specs.Topology.{answer_take, answer_intend, answer_record, answer_drain}
 use Rattle.topo_lock.specs.declared.lock.LockTaken.{LockTaken}
 use Rattle.topo_lock.specs.declared.lock.TopoFault.{TopoFault}
 use Rattle.topo_lock.specs.declared.lock.TopoFault.TheVariants as faults
@@ -24,7 +24,7 @@ use Rattle.shard_calls.specs.Tablets.{TabletState, Verdict, only_says, writes, w
 use Rattle.shard_calls.specs.World.{Config, World, opening, numbered, changed_at, with_act, open_command, term_of}
 use Rattle.shard_calls.specs.Messages.{why_given_up, offer_to}
 use Rattle.shard_calls.specs.Begins.{ends_by}
-use Rattle.shard_calls.specs.Locks.{takes_by, with_taken, by_term, reads, intends_in, with_intended, records_in, with_recorded, as_released, releases_in}
+use Rattle.shard_calls.specs.Locks.{takes_by, with_taken, by_term, reads, intends_in, with_intended, records_in, drains_in, with_recorded, with_drained, as_released, releases_in}
 use Rattle.shard_calls.specs.Deliveries.{if_declared}
 use Rattle.shard_base.specs.Options.{◌>>=◌}
 use Rattle.shard_calls.specs.declared.state.Act.{Act}
@@ -101,6 +101,11 @@ recorded_keeps a (Ok u) x = refl
 recorded_keeps a (Err (faults.LockLost current)) x = refl
 recorded_keeps a (Err (faults.IntentStands b)) x = refl
 
+drained_keeps : (a : Alias) (r : Result (Unit {0}) TopoFault) (x : CommandState) → (with_drained a r x).wrote ≡ x.wrote
+drained_keeps a (Ok u) x = refl
+drained_keeps a (Err (faults.LockLost current)) x = refl
+drained_keeps a (Err (faults.IntentStands b)) x = refl
+
 tell_wrote : (w : World) (d c : ℕ) (o : Option Act) → wrote_in (numbered (with_told w d o).commands c) ≡ wrote_in (numbered w.commands c)
 tell_wrote w d c None = refl
 tell_wrote w d c (Some act) = keep_wrote w.commands d c (with_act act) (λ s. refl)
@@ -156,6 +161,8 @@ wrote_cases config w (events.Intend d a) c =
     inl (by_wrote w c (intends_in w d a) (term_of w d) (λ t. keep_wrote w.commands d c _ (intended_keeps a (answer_intend w.topo t a))))
 wrote_cases config w (events.Record d a) c =
     inl (by_wrote w c (records_in w d a) (term_of w d) (λ t. keep_wrote w.commands d c _ (recorded_keeps a (answer_record w.topo t))))
+wrote_cases config w (events.Drain d a) c =
+    inl (by_wrote w c (drains_in w d a) (term_of w d) (λ t. keep_wrote w.commands d c _ (drained_keeps a (answer_drain w.topo t))))
 wrote_cases config w (events.Release d) c = inl (by_wrote w c (releases_in w d) (term_of w d) (λ t. keep_wrote w.commands d c as_released (λ s. refl)))
 wrote_cases config w events.Lapse c = inl refl
 wrote_cases config w (events.Send d a call) c = inl (keep_wrote w.commands d c _ (λ s. refl))

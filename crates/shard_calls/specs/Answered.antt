@@ -43,6 +43,11 @@ recorded_by_reply a replies.Ok = Some (acts.Recorded a (Ok tt))
 recorded_by_reply a (replies.Lost term) = Some (acts.Recorded a (Err term))
 recorded_by_reply a _ = None
 
+abbrev pub drained_by_reply : Alias → Reply → Option Act
+drained_by_reply a replies.Ok = Some (acts.Drained a (Ok tt))
+drained_by_reply a (replies.Lost term) = Some (acts.Drained a (Err term))
+drained_by_reply a _ = None
+
 abbrev pub sent_by_reply : Reply → Option Act
 sent_by_reply (replies.Message k) = Some (acts.Sent k)
 sent_by_reply _ = None
@@ -67,6 +72,7 @@ act_of c (events.Take d) r = if_own d c (taken_by_reply r)
 act_of c (events.Read d) r = if_own d c (read_by_reply r)
 act_of c (events.Intend d a) r = if_own d c (intended_by_reply a r)
 act_of c (events.Record d a) r = if_own d c (recorded_by_reply a r)
+act_of c (events.Drain d a) r = if_own d c (drained_by_reply a r)
 act_of c (events.Release d) r = None
 act_of c events.Lapse r = None
 act_of c (events.Send d a call) r = if_own d c (sent_by_reply r)
@@ -109,6 +115,7 @@ settles_call w k (events.Take c) r = None
 settles_call w k (events.Read c) r = None
 settles_call w k (events.Intend c a) r = None
 settles_call w k (events.Record c a) r = None
+settles_call w k (events.Drain c a) r = None
 settles_call w k (events.Release c) r = None
 settles_call w k events.Lapse r = None
 settles_call w k (events.Send c a call) r = None

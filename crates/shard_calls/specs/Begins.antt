@@ -16,13 +16,8 @@ use Rattle.shard_calls.specs.World.{Config, World, on_command, idle_actor, chang
 -- ---- Begin: by an actor who has no open command, at declared tablets
 
 abbrev pub writes_by : Command → ℕ
-writes_by (commands.Planned shard new_primary avoid expected timeout allow_cross_cell) = 0
-writes_by (commands.Emergency shard new_primary ignored expected timeout prevent_cross_cell) = 0
-writes_by (commands.External a) = 0
 writes_by (commands.Write to) = 1
-writes_by (commands.Show a) = 0
-writes_by (commands.GetShard shard) = 0
-writes_by (commands.GetTablets shard) = 0
+writes_by _ = 0
 
 -- it waits a day for an answer at most
 abbrev pub is_in_time : Command → Bool
@@ -30,14 +25,9 @@ is_in_time command = nat_le (timeout_of command) 86400000
 
 -- a tablet that a command writes at or shows is declared
 abbrev pub names_declared : Config → Command → Bool
-names_declared config (commands.Planned shard new_primary avoid expected timeout allow_cross_cell) = true
-names_declared config (commands.Emergency shard new_primary ignored expected timeout prevent_cross_cell) = true
-names_declared config (commands.External a) = true
-names_declared config (commands.Write None) = true
 names_declared config (commands.Write (Some a)) = is_declared config.tablets a
 names_declared config (commands.Show a) = is_declared config.tablets a
-names_declared config (commands.GetShard shard) = true
-names_declared config (commands.GetTablets shard) = true
+names_declared config _ = true
 
 abbrev pub client_at : List ActorState → Option ℕ → ℕ
 client_at actors None = length actors
@@ -72,13 +62,8 @@ abbrev pub shown_of : TabletState → Shown
 shown_of s = record { stand = s.stand; position = position_of s.log }
 
 abbrev pub shown_by : World → Command → Option Shown
-shown_by w (commands.Planned shard new_primary avoid expected timeout allow_cross_cell) = None
-shown_by w (commands.Emergency shard new_primary ignored expected timeout prevent_cross_cell) = None
-shown_by w (commands.External a) = None
-shown_by w (commands.Write to) = None
 shown_by w (commands.Show a) = Some (shown_of (w.tablets a))
-shown_by w (commands.GetShard shard) = None
-shown_by w (commands.GetTablets shard) = None
+shown_by w _ = None
 
 abbrev pub begun_state : World → List ℕ → Command → CommandState
 begun_state w name command = record {

@@ -20,6 +20,8 @@ use Rattle.shard_calls.specs.declared.answer.Answer.{Answer}
 use Rattle.shard_calls.specs.declared.answer.Answer.TheVariants as says
 use Rattle.shard_calls.specs.declared.command.Command.{Command}
 use Rattle.shard_calls.specs.declared.command.Command.TheVariants as commands
+use Rattle.shard_calls.specs.declared.analysis.Finding.{Finding}
+use Rattle.shard_calls.specs.declared.analysis.Status.{Status}
 use Rattle.shard_calls.specs.declared.command.EmergencyOptions.{EmergencyOptions}
 use Rattle.shard_calls.specs.declared.command.PlannedOptions.{PlannedOptions}
 use Rattle.shard_calls.specs.declared.ending.CommandAnswer.{CommandAnswer}
@@ -27,6 +29,8 @@ use Rattle.shard_calls.specs.declared.ending.CommandAnswer.TheVariants as answer
 use Rattle.shard_calls.specs.declared.ending.Left.{Left}
 use Rattle.shard_calls.specs.declared.ending.Left.TheVariants as lefts
 use Rattle.shard_calls.specs.declared.ending.NotJoined.{NotJoined}
+use Rattle.shard_calls.specs.declared.ending.Rest.{Rest}
+use Rattle.shard_calls.specs.declared.ending.Rest.TheVariants as lines
 use Rattle.shard_calls.specs.declared.ending.ShownType.{ShownType}
 use Rattle.shard_calls.specs.declared.ending.ShownType.TheVariants as shown_types
 use Rattle.shard_calls.specs.declared.ending.TabletRow.{TabletRow}
@@ -60,12 +64,13 @@ use Rattle.shard_calls.specs.declared.state.Shown.{Shown}
 use Rattle.shard_calls.specs.declared.state.Wrote.{Wrote}
 use Rattle.shard_calls.specs.declared.why.Why.{Why}
 use Rattle.shard_calls.specs.declared.why.Why.TheVariants as whys
-use Rattle.shard_calls.specs.Choosing.{are_settled, candidates, first_of, follower}
+use Rattle.shard_calls.specs.Analysis.{Statuses, analysed, finds, is_orphaned, is_urgent, problems}
+use Rattle.shard_calls.specs.Choosing.{are_settled, candidates, first_of, follower, outcome_of}
 use Rattle.shard_calls.specs.Commands.{planned_with, emergency_with}
 use Rattle.shard_calls.specs.Kinds.{kind_eq}
 use Rattle.shard_calls.specs.Refusals.{refusal_after, refusal_by_demoted, refusal_by_seen, refusal_by_topology, refusal_of_crossing, refusal_of_emergency, refusal_of_planned, refusal_of_undeclared, term_of_promoted}
 use Rattle.shard_calls.specs.Rescuing.{heeded, refusal_of_unrevoked, rescuer, stale_in, winner_of}
-use Rattle.shard_calls.specs.Same.{not_joined_eq, position_eq, record_or_none_eq, refusal_eq, rows_eq, shard_name_eq, standing_eq}
+use Rattle.shard_calls.specs.Same.{findings_eq, lines_eq, not_joined_eq, position_eq, record_or_none_eq, refusal_eq, rows_eq, shard_name_eq, standing_eq}
 use Rattle.shard_calls.specs.Spans.{span_in}
 use Rattle.shard_calls.specs.Stands.{is_primary_of, standing_of}
 use Rattle.shard_calls.specs.World.{Config, World, group_of}
@@ -349,6 +354,79 @@ abbrev pub is_promoted : CommandState → List Deed → Alias → ℕ → List N
 is_promoted s span a t left =
     is_some_of s.term t && any_said_in t kinds.Promote a is_promoted_answer span && any_said_in t kinds.WaitTold a is_told_answer span && leaves_out a left span
 
+-- ---- of a vtorc
+
+-- how a tablet stands that answered its Status
+abbrev pub status_in : Option Outcome → Option Status
+status_in (Some (Answered (says.Status seen promised stand newest p))) = Some (record { stand = stand; position = p })
+status_in _ = None
+
+-- what each tablet answered to the first of these calls of it
+abbrev pub statuses : List Deed → Statuses
+statuses done a = status_in (outcome_of done a)
+
+-- what is amiss with each tablet, by the record and the marks right after it began, and by what the tablets answered
+abbrev pub findings_of : Group → Seen → List Deed → List Finding
+findings_of g seen done = analysed g seen.recorded seen.drained (statuses done)
+
+abbrev pub joined_or_left : Alias → Alias → Option Left → Rest
+joined_or_left p a None = lines.Joined a p
+joined_or_left p a (Some left) = lines.Left a left
+
+-- what came of the SetSource of a tablet
+abbrev pub line_of_call : Alias → Alias → Option Outcome → List Rest
+line_of_call p a None = []
+line_of_call p a (Some o) = joined_or_left p a (left_by o) ∷ []
+
+-- what came of a repair beside the primary p
+abbrev pub line_of : Alias → Deed → List Rest
+line_of p (deeds.Took (Err held)) = lines.Refused (refusals.LockTaken held.term held.actor) None ∷ []
+line_of p (deeds.Drained a (Ok x)) = lines.Drained a ∷ []
+line_of p (deeds.Drained a (Err t)) = lines.Refused (refusals.LockLost t) None ∷ []
+line_of p (deeds.Asked x) = if is_set_source_kind x.kind then line_of_call p x.alias x.outcome else []
+line_of p _ = []
+
+abbrev pub lines_beside : Option Record → List Deed → List Rest
+lines_beside None span = []
+lines_beside (Some r) span = flat_map (line_of r.alias) span
+
+abbrev pub is_taking : Deed → Bool
+is_taking (deeds.Took reply) = true
+is_taking _ = false
+
+-- what was done from here on
+abbrev pub from_first : (Deed → Bool) → List Deed → List Deed
+from_first test [] = []
+from_first test (d ∷ ds) = if test d then d ∷ ds else from_first test ds
+
+-- the reparent inside a vtorc has no options
+abbrev pub plain : PlannedOptions
+plain = planned_with None None None None false
+
+abbrev pub forced : EmergencyOptions
+forced = emergency_with None [] None None false
+
+-- the reparent promoted a tablet, or was refused so
+abbrev pub is_line_of_reparent : (Refusal → Option Bool → Bool) → CommandState → List Deed → List Rest → Bool
+is_line_of_reparent refused s span (lines.Promoted a t left ∷ []) = is_promoted s span a t left
+is_line_of_reparent refused s span (lines.Refused r undone ∷ []) = refused r undone
+is_line_of_reparent refused s span _ = false
+
+-- what was done about these findings
+abbrev pub are_lines_of : Group → Seen → CommandState → List Deed → List Finding → List Rest → Bool
+are_lines_of g seen s span findings rest =
+    if finds is_orphaned findings then is_line_of_reparent (planned_is_refused g plain (from_first is_taking span)) s span rest
+    else if finds is_urgent findings
+    then is_line_of_reparent (λ r undone. is_none undone && emergency_is_refused g forced span r) s span rest
+    else lines_eq rest (lines_beside seen.recorded span)
+
+-- each tablet was asked how it stands; what is found is what is amiss by what they answered, and this was done about it
+abbrev pub is_watched : Group → CommandState → List Deed → List Finding → List Rest → Bool
+is_watched g s span findings rest =
+    are_settled (map (λ t. t.alias) g.tablets) (calls_of kinds.Status span)
+    && findings_eq findings (problems (findings_of g s.opening.seen (calls_of kinds.Status span)))
+    && are_lines_of g s.opening.seen s span (findings_of g s.opening.seen (calls_of kinds.Status span)) rest
+
 -- ---- of a write and of a look at the shard
 
 abbrev pub wrote_this : Option Wrote → Gtid → Alias → ℕ → Bool
@@ -400,42 +478,25 @@ has_no_other_cause refusal undone = is_none undone && is_want_of_memory refusal
 abbrev pub has_planned_cause : Group → PlannedOptions → CommandState → List Deed → CommandAnswer → Bool
 has_planned_cause g o s span (answers.Promoted a t left) = is_promoted s span a t left
 has_planned_cause g o s span (answers.NothingToDo a) = is_idle o.avoid a && any_read (λ seen. is_last_intended a seen.intent) span
-has_planned_cause g o s span (answers.Recorded t) = false
 has_planned_cause g o s span (answers.Refused refusal undone) = has_no_other_cause refusal undone || planned_is_refused g o span refusal undone
-has_planned_cause g o s span (answers.Committed x a t) = false
-has_planned_cause g o s span (answers.NotPrimary a at) = false
-has_planned_cause g o s span answers.NoPrimaryRecorded = false
-has_planned_cause g o s span (answers.Unknown x a t) = false
-has_planned_cause g o s span (answers.Shown a at p) = false
-has_planned_cause g o s span (answers.Shard shard recorded) = false
-has_planned_cause g o s span (answers.Tablets rows) = false
+has_planned_cause g o s span _ = false
 
 abbrev pub has_emergency_cause : Group → EmergencyOptions → CommandState → List Deed → CommandAnswer → Bool
 has_emergency_cause g o s span (answers.Promoted a t left) = is_promoted s span a t left
-has_emergency_cause g o s span (answers.NothingToDo a) = false
-has_emergency_cause g o s span (answers.Recorded t) = false
 has_emergency_cause g o s span (answers.Refused refusal undone) = is_none undone && (is_want_of_memory refusal || emergency_is_refused g o span refusal)
-has_emergency_cause g o s span (answers.Committed x a t) = false
-has_emergency_cause g o s span (answers.NotPrimary a at) = false
-has_emergency_cause g o s span answers.NoPrimaryRecorded = false
-has_emergency_cause g o s span (answers.Unknown x a t) = false
-has_emergency_cause g o s span (answers.Shown a at p) = false
-has_emergency_cause g o s span (answers.Shard shard recorded) = false
-has_emergency_cause g o s span (answers.Tablets rows) = false
+has_emergency_cause g o s span _ = false
 
 abbrev pub has_external_cause : Group → Alias → List Deed → CommandAnswer → Bool
-has_external_cause g a span (answers.Promoted b t left) = false
-has_external_cause g a span (answers.NothingToDo b) = false
 has_external_cause g a span (answers.Recorded t) =
     any_read (λ seen. any_answer kinds.Status a (stands_promoted a seen.intent t) span) span && list_any (records_it a) span
 has_external_cause g a span (answers.Refused refusal undone) = is_none undone && (is_want_of_memory refusal || external_is_refused g a span refusal)
-has_external_cause g a span (answers.Committed x b t) = false
-has_external_cause g a span (answers.NotPrimary b at) = false
-has_external_cause g a span answers.NoPrimaryRecorded = false
-has_external_cause g a span (answers.Unknown x b t) = false
-has_external_cause g a span (answers.Shown b at p) = false
-has_external_cause g a span (answers.Shard shard recorded) = false
-has_external_cause g a span (answers.Tablets rows) = false
+has_external_cause g a span _ = false
+
+-- of a vtorc
+abbrev pub has_vtorc_cause : Group → CommandState → List Deed → CommandAnswer → Bool
+has_vtorc_cause g s span (answers.Vtorc findings rest) = is_watched g s span findings rest
+has_vtorc_cause g s span (answers.Refused refusal undone) = has_no_other_cause refusal undone
+has_vtorc_cause g s span _ = false
 
 -- Of a write. What it wrote is committed once that was told; where it never was, and the tablet is no longer the primary of that term, nobody knows.
 abbrev pub has_write_cause : World → Option Alias → CommandState → CommandAnswer → Bool
@@ -444,27 +505,14 @@ has_write_cause w to s (answers.NotPrimary a at) = list_any (says_not_primary a 
 has_write_cause w to s answers.NoPrimaryRecorded = is_none to && is_none s.opening.seen.recorded
 has_write_cause w to s (answers.Unknown g a t) =
     wrote_this s.wrote g a t && not (list_any is_told_act s.acts) && not (is_primary_of (w.tablets a).stand t)
-has_write_cause w to s (answers.Promoted a t left) = false
-has_write_cause w to s (answers.NothingToDo a) = false
-has_write_cause w to s (answers.Recorded t) = false
 has_write_cause w to s (answers.Refused refusal undone) = has_no_other_cause refusal undone
-has_write_cause w to s (answers.Shown a at p) = false
-has_write_cause w to s (answers.Shard shard recorded) = false
-has_write_cause w to s (answers.Tablets rows) = false
+has_write_cause w to s _ = false
 
 -- of a show of this tablet
 abbrev pub has_show_cause : Alias → CommandState → CommandAnswer → Bool
 has_show_cause shown s (answers.Shown a at p) = alias_eq shown a && showed s.opening.shown at p
-has_show_cause shown s (answers.NothingToDo a) = false
-has_show_cause shown s (answers.Recorded t) = false
 has_show_cause shown s (answers.Refused refusal undone) = has_no_other_cause refusal undone
-has_show_cause shown s (answers.Promoted a t left) = false
-has_show_cause shown s (answers.Committed g a t) = false
-has_show_cause shown s (answers.NotPrimary a at) = false
-has_show_cause shown s answers.NoPrimaryRecorded = false
-has_show_cause shown s (answers.Unknown g a t) = false
-has_show_cause shown s (answers.Shard shard recorded) = false
-has_show_cause shown s (answers.Tablets rows) = false
+has_show_cause shown s _ = false
 
 -- of a GetShard
 abbrev pub has_shard_cause : ShardName → CommandState → CommandAnswer → Bool
@@ -484,6 +532,7 @@ has_command_cause config w s (commands.Planned shard new_primary avoid expected 
 has_command_cause config w s (commands.Emergency shard new_primary ignored expected timeout preventing) answer =
     has_emergency_cause (group_of config) (emergency_with new_primary ignored expected timeout preventing) s (span_in w.post s) answer
 has_command_cause config w s (commands.External a) answer = has_external_cause (group_of config) a (span_in w.post s) answer
+has_command_cause config w s commands.Vtorc answer = has_vtorc_cause (group_of config) s (span_in w.post s) answer
 has_command_cause config w s (commands.Write to) answer = has_write_cause w to s answer
 has_command_cause config w s (commands.Show a) answer = has_show_cause a s answer
 has_command_cause config w s (commands.GetShard shard) answer = has_shard_cause shard s answer

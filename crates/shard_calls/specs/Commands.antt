@@ -30,28 +30,14 @@ emergency_with new_primary ignored expected timeout preventing = record {
 
 abbrev pub planned_options : Command → Option PlannedOptions
 planned_options (commands.Planned shard new_primary avoid expected timeout crossing) = Some (planned_with new_primary avoid expected timeout crossing)
-planned_options (commands.Emergency shard new_primary ignored expected timeout preventing) = None
-planned_options (commands.External a) = None
-planned_options (commands.Write to) = None
-planned_options (commands.Show a) = None
-planned_options (commands.GetShard shard) = None
-planned_options (commands.GetTablets shard) = None
+planned_options _ = None
 
 abbrev pub emergency_options : Command → Option EmergencyOptions
-emergency_options (commands.Planned shard new_primary avoid expected timeout crossing) = None
 emergency_options (commands.Emergency shard new_primary ignored expected timeout preventing) = Some (emergency_with new_primary ignored expected timeout preventing)
-emergency_options (commands.External a) = None
-emergency_options (commands.Write to) = None
-emergency_options (commands.Show a) = None
-emergency_options (commands.GetShard shard) = None
-emergency_options (commands.GetTablets shard) = None
+emergency_options _ = None
 
 -- the milliseconds that a command waits for an answer: by its option, or else 15 seconds
 abbrev pub timeout_of : Command → ℕ
 timeout_of (commands.Planned shard new_primary avoid expected timeout crossing) = unwrap_or timeout usual_timeout
 timeout_of (commands.Emergency shard new_primary ignored expected timeout preventing) = unwrap_or timeout usual_timeout
-timeout_of (commands.External a) = usual_timeout
-timeout_of (commands.Write to) = usual_timeout
-timeout_of (commands.Show a) = usual_timeout
-timeout_of (commands.GetShard shard) = usual_timeout
-timeout_of (commands.GetTablets shard) = usual_timeout
+timeout_of _ = usual_timeout

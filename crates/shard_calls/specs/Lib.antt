@@ -13,6 +13,8 @@ pub mod Choosing
 pub mod Rescuing
 pub mod Evidence
 pub mod Grounds
+pub mod Analysis
+pub mod AnalysisExamples
 pub mod Same
 pub mod Causes
 pub mod Begins

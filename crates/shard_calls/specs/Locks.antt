@@ -1,8 +1,8 @@
--- The lock, the intents and the record, as a command uses them. After the shard lock of Vitess's topology service (Vitess manual) and the terms of
+-- The lock, the intents, the record and the marks, as a command uses them. After the shard lock of Vitess's topology service (Vitess manual) and the terms of
 -- Sougoumarane's "Consensus algorithms at scale".
 use Rattle.std.specs.Prelude.{ℕ, Bool, true, false, not, ◌||◌, Option, Some, None, Result, Ok, Err, is_none, if◌then◌else◌}
 use Rattle.shard_names.specs.declared.alias.Alias.{Alias}
-use Rattle.topo_lock.specs.Topology.{Topology, is_held_in, last_intent, answer_take, after_take, answer_intend, after_intend, answer_record, after_record, after_release}
+use Rattle.topo_lock.specs.Topology.{Topology, is_held_in, last_intent, answer_take, after_take, answer_intend, after_intend, answer_record, after_record, answer_drain, after_drain, after_release}
 use Rattle.topo_lock.specs.declared.lock.LockTaken.{LockTaken}
 use Rattle.topo_lock.specs.declared.lock.TopoFault.{TopoFault}
 use Rattle.topo_lock.specs.declared.lock.TopoFault.TheVariants as faults
@@ -39,7 +39,7 @@ takes_by w c (Some s) = on_command (on_topo w (after_take w.topo (record { comma
 abbrev pub takes : World → ℕ → World
 takes w c = takes_by w c (open_command w c)
 
--- ---- Read, Intend, Record and Release, each of a command that took the lock
+-- ---- Read, Intend, Record, Drain and Release, each of a command that took the lock
 
 -- of the term in which the command took the lock
 abbrev pub by_term : {A : Type 0} → Option ℕ → A → (ℕ → A) → A
@@ -94,6 +94,17 @@ with_recorded a answer = with_act_if (recorded_act a answer)
 
 abbrev pub records_in : World → ℕ → Alias → ℕ → World
 records_in w c a t = on_command (on_topo w (after_record w.topo t w.clock)) c (with_recorded a (answer_record w.topo t))
+
+abbrev pub drained_act : Alias → Result (Unit {0}) TopoFault → Option Act
+drained_act a (Ok u) = Some (acts.Drained a (Ok tt))
+drained_act a (Err (faults.LockLost current)) = Some (acts.Drained a (Err current))
+drained_act a (Err (faults.IntentStands b)) = None
+
+abbrev pub with_drained : Alias → Result (Unit {0}) TopoFault → CommandState → CommandState
+with_drained a answer = with_act_if (drained_act a answer)
+
+abbrev pub drains_in : World → ℕ → Alias → ℕ → World
+drains_in w c a t = on_command (on_topo w (after_drain w.topo t a)) c (with_drained a (answer_drain w.topo t))
 
 -- it has made its Release
 abbrev pub as_released : CommandState → CommandState

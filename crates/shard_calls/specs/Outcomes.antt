@@ -51,6 +51,7 @@ sending_of post (acts.Took reply) = None
 sending_of post (acts.Read reply) = None
 sending_of post (acts.Intended a reply) = None
 sending_of post (acts.Recorded a reply) = None
+sending_of post (acts.Drained a reply) = None
 sending_of post (acts.Sent k) = numbered post k >>= (λ m. sending_by post m m.content)
 sending_of post (acts.Wrote a reply) = None
 sending_of post (acts.Told committed) = None

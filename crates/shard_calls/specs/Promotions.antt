@@ -1,7 +1,7 @@
 -- What a history promotes and what it tells, read off the logs. A promotion is a row in the log, as Vitess writes one into its reparent
 -- journal (Vitess manual); that one term promotes once, and that what was told is kept, is what Sougoumarane's "Consensus algorithms at
 -- scale" asks of a change of leaders.
-use Rattle.std.specs.Prelude.{Option, None, ◌≡◌, ◌≤◌, ◌<◌, ℕ, List, ◌∷◌, ◌++◌, Some, true, take, length, slice_get, Contains}
+use Rattle.std.specs.Prelude.{Option, None, ◌≡◌, ◌≤◌, ◌<◌, ℕ, List, [], ◌∷◌, ◌++◌, Some, true, take, length, slice_get, Contains}
 use Rattle.shard_names.specs.Tablets.{tablet_of}
 use Rattle.shard_names.specs.declared.alias.Alias.{Alias}
 use Rattle.shard_names.specs.declared.tablet.Tablet.{Tablet}
@@ -12,6 +12,7 @@ use Rattle.shard_calls.specs.declared.answer.Answer.TheVariants as says
 use Rattle.shard_calls.specs.declared.call.Call.TheVariants as calls
 use Rattle.shard_calls.specs.declared.ending.CommandAnswer.{CommandAnswer}
 use Rattle.shard_calls.specs.declared.ending.CommandAnswer.TheVariants as answers
+use Rattle.shard_calls.specs.declared.ending.Rest.TheVariants as lines
 use Rattle.shard_calls.specs.declared.event.Event.TheVariants as events
 use Rattle.shard_calls.specs.declared.event.Reply.TheVariants as replies
 use Rattle.shard_calls.specs.declared.event.Step.{Step}
@@ -84,33 +85,19 @@ IsWriteOf term (kinds.Write t client number) = t ≡ term
 IsWriteOf term (kinds.Row t a) = ⊥
 IsWriteOf term kinds.Local = ⊥
 
--- the tablet at which an answer tells an entry as committed
+-- the tablet at which an answer tells an entry as committed; a vtorc that promotes a tablet does nothing else
 abbrev pub told_at : CommandAnswer → Option Alias
 told_at (answers.Promoted a term left) = Some a
-told_at (answers.NothingToDo a) = None
-told_at (answers.Recorded term) = None
-told_at (answers.Refused refusal tried) = None
 told_at (answers.Committed g a term) = Some a
-told_at (answers.NotPrimary a at) = None
-told_at answers.NoPrimaryRecorded = None
-told_at (answers.Unknown g a term) = None
-told_at (answers.Shown a at p) = None
-told_at (answers.Shard shard recorded) = None
-told_at (answers.Tablets rows) = None
+told_at (answers.Vtorc findings (lines.Promoted a term left ∷ [])) = Some a
+told_at _ = None
 
 -- the entry that an answer tells: of a write its transaction, of a reparent the row of its term
 abbrev pub IsToldBy : CommandAnswer → Entry → Type 0
 IsToldBy (answers.Promoted a term left) e = e.kind ≡ kinds.Row term a
-IsToldBy (answers.NothingToDo a) e = ⊥
-IsToldBy (answers.Recorded term) e = ⊥
-IsToldBy (answers.Refused refusal tried) e = ⊥
 IsToldBy (answers.Committed g a term) e = (e.gtid ≡ g) × IsWriteOf term e.kind
-IsToldBy (answers.NotPrimary a at) e = ⊥
-IsToldBy answers.NoPrimaryRecorded e = ⊥
-IsToldBy (answers.Unknown g a term) e = ⊥
-IsToldBy (answers.Shown a at p) e = ⊥
-IsToldBy (answers.Shard shard recorded) e = ⊥
-IsToldBy (answers.Tablets rows) e = ⊥
+IsToldBy (answers.Vtorc findings (lines.Promoted a term left ∷ [])) e = e.kind ≡ kinds.Row term a
+IsToldBy _ e = ⊥
 
 -- step i ends a command with this answer
 abbrev pub EndsAt : List Step → ℕ → CommandAnswer → Type 0

@@ -1,14 +1,19 @@
 -- Whether two of a kind are one: of the answers of commands and of what stands in them. Answers are those of vtctldclient (Vitess manual).
-use Rattle.std.specs.Prelude.{Bool, true, false, ◌&&◌, ◌==◌, List, [], ◌∷◌, Option, Some, None}
+use Rattle.std.specs.Prelude.{Bool, true, false, not, ◌&&◌, ◌==◌, List, [], ◌∷◌, Option, Some, None, if◌then◌else◌}
 use Rattle.std.specs.Str.{bytes_eq}
 use Rattle.shard_names.specs.declared.alias.Alias.{Alias}
 use Rattle.shard_names.specs.declared.shard_name.ShardName.{ShardName}
 use Rattle.shard_names.specs.Tablets.{alias_eq}
 use Rattle.gtid_sets.specs.Position.{Position, covers}
 use Rattle.topo_lock.specs.declared.intent.Record.{Record}
+use Rattle.shard_calls.specs.declared.analysis.Analysis.{Analysis}
+use Rattle.shard_calls.specs.declared.analysis.Analysis.TheVariants as analyses
+use Rattle.shard_calls.specs.declared.analysis.Finding.{Finding}
 use Rattle.shard_calls.specs.declared.ending.Left.{Left}
 use Rattle.shard_calls.specs.declared.ending.Left.TheVariants as lefts
 use Rattle.shard_calls.specs.declared.ending.NotJoined.{NotJoined}
+use Rattle.shard_calls.specs.declared.ending.Rest.{Rest}
+use Rattle.shard_calls.specs.declared.ending.Rest.TheVariants as lines
 use Rattle.shard_calls.specs.declared.ending.ShownType.{ShownType}
 use Rattle.shard_calls.specs.declared.ending.ShownType.TheVariants as shown_types
 use Rattle.shard_calls.specs.declared.ending.TabletRow.{TabletRow}
@@ -153,3 +158,46 @@ rows_eq [] [] = true
 rows_eq [] (y ∷ ys) = false
 rows_eq (x ∷ xs) [] = false
 rows_eq (x ∷ xs) (y ∷ ys) = alias_eq x.alias y.alias && bytes_eq x.server y.server && shown_type_eq x.kind y.kind && rows_eq xs ys
+
+abbrev pub analysis_eq : Analysis → Analysis → Bool
+analysis_eq analyses.NoProblem analyses.NoProblem = true
+analysis_eq analyses.ClusterHasNoPrimary analyses.ClusterHasNoPrimary = true
+analysis_eq analyses.DeadPrimaryWithoutReplicas analyses.DeadPrimaryWithoutReplicas = true
+analysis_eq analyses.DeadPrimaryAndReplicas analyses.DeadPrimaryAndReplicas = true
+analysis_eq analyses.DeadPrimaryAndSomeReplicas analyses.DeadPrimaryAndSomeReplicas = true
+analysis_eq analyses.DeadPrimary analyses.DeadPrimary = true
+analysis_eq analyses.PrimaryHasPrimary analyses.PrimaryHasPrimary = true
+analysis_eq analyses.PrimaryIsReadOnly analyses.PrimaryIsReadOnly = true
+analysis_eq analyses.LockedSemiSyncPrimary analyses.LockedSemiSyncPrimary = true
+analysis_eq analyses.ErrantGTIDDetected analyses.ErrantGTIDDetected = true
+analysis_eq analyses.ReplicaIsWritable analyses.ReplicaIsWritable = true
+analysis_eq analyses.ConnectedToWrongPrimary analyses.ConnectedToWrongPrimary = true
+analysis_eq analyses.NotConnectedToPrimary analyses.NotConnectedToPrimary = true
+analysis_eq analyses.ReplicationStopped analyses.ReplicationStopped = true
+analysis_eq x y = false
+
+abbrev pub findings_eq : List Finding → List Finding → Bool
+findings_eq [] [] = true
+findings_eq [] (y ∷ ys) = false
+findings_eq (x ∷ xs) [] = false
+findings_eq (x ∷ xs) (y ∷ ys) = alias_eq x.alias y.alias && analysis_eq x.analysis y.analysis && findings_eq xs ys
+
+abbrev pub undone_eq : Option Bool → Option Bool → Bool
+undone_eq None None = true
+undone_eq None (Some c) = false
+undone_eq (Some b) None = false
+undone_eq (Some b) (Some c) = if b then c else not c
+
+abbrev pub line_eq : Rest → Rest → Bool
+line_eq (lines.Promoted a t xs) (lines.Promoted b u ys) = alias_eq a b && (t == u) && not_joined_eq xs ys
+line_eq (lines.Refused r b) (lines.Refused s c) = refusal_eq r s && undone_eq b c
+line_eq (lines.Joined a p) (lines.Joined b q) = alias_eq a b && alias_eq p q
+line_eq (lines.Left a x) (lines.Left b y) = alias_eq a b && left_eq x y
+line_eq (lines.Drained a) (lines.Drained b) = alias_eq a b
+line_eq x y = false
+
+abbrev pub lines_eq : List Rest → List Rest → Bool
+lines_eq [] [] = true
+lines_eq [] (y ∷ ys) = false
+lines_eq (x ∷ xs) [] = false
+lines_eq (x ∷ xs) (y ∷ ys) = line_eq x y && lines_eq xs ys

@@ -1,9 +1,9 @@
--- The step table of this stage, in three columns: for each event its condition, its reply and the world that it leaves. After
+-- The step table, in three columns: for each event its condition, its reply and the world that it leaves. After
 -- PlannedReparentShard, the shard lock and replication (Vitess manual, MySQL 8.0 manual); that the lock has terms, that a term says whom it
 -- promotes before it does, and that messages may be late, lost or repeated, is after Sougoumarane's "Consensus algorithms at scale".
 use Rattle.std.specs.Prelude.{◌≡◌, ℕ, ◌+◌, Bool, true, false, not, ◌&&◌, nat_le, nat_lt, List, [], ◌∷◌, ◌++◌, is_none, is_some, length, unwrap_or, IsTrue, ⊤}
 use Rattle.shard_names.specs.Tablets.{is_declared}
-use Rattle.topo_lock.specs.Topology.{answer_take, answer_intend, answer_record, after_lapse}
+use Rattle.topo_lock.specs.Topology.{answer_take, answer_intend, answer_record, answer_drain, after_lapse}
 use Rattle.shard_calls.specs.declared.event.Event.{Event}
 use Rattle.shard_calls.specs.declared.event.Event.TheVariants as events
 use Rattle.shard_calls.specs.declared.event.Reply.{Reply}
@@ -16,7 +16,7 @@ use Rattle.shard_calls.specs.Tablets.{writes_local, after_crash, restarts}
 use Rattle.shard_calls.specs.World.{Config, World, opening, on_tablet, on_topo, on_message, next_message, vanishes, numbered, open_of, open_command, term_of, is_eligible_alias}
 use Rattle.shard_calls.specs.Messages.{with_cut, without_cut, is_deliverable, why_given_up, offer_to}
 use Rattle.shard_calls.specs.Causes.{has_cause}
-use Rattle.shard_calls.specs.Locks.{took_nothing, taken_reply, takes, by_term, read_reply, reads, topo_reply, intends_in, may_record, records_in, releases_in}
+use Rattle.shard_calls.specs.Locks.{took_nothing, taken_reply, takes, by_term, read_reply, reads, topo_reply, intends_in, may_record, records_in, drains_in, releases_in}
 use Rattle.shard_calls.specs.Begins.{is_in_time, names_declared, begins, ends}
 use Rattle.shard_calls.specs.Deliveries.{may_send, asks, by_tablet, after_delivery, delivery_reply, gives_up, why_reply, offers}
 use Rattle.shard_calls.specs.Writes.{may_write, writes_in, written_reply, write_reply, tell_of, tells}
@@ -48,6 +48,7 @@ meets config w (events.Take c) = took_nothing (open_command w c)
 meets config w (events.Read c) = is_some (term_of w c)
 meets config w (events.Intend c a) = is_some (term_of w c) && is_eligible_alias config a
 meets config w (events.Record c a) = is_declared config.tablets a && by_term (term_of w c) false (may_record w.topo a)
+meets config w (events.Drain c a) = is_declared config.tablets a && is_some (term_of w c)
 meets config w (events.Release c) = is_some (term_of w c)
 meets config w events.Lapse = true
 meets config w (events.Send c a call) = is_declared config.tablets a && may_send config w c a call (open_command w c)
@@ -75,6 +76,7 @@ answer config w (events.Take c) = taken_reply (answer_take w.topo)
 answer config w (events.Read c) = by_term (term_of w c) replies.Ok (read_reply w.topo)
 answer config w (events.Intend c a) = by_term (term_of w c) replies.Ok (λ t. topo_reply (answer_intend w.topo t a))
 answer config w (events.Record c a) = by_term (term_of w c) replies.Ok (λ t. topo_reply (answer_record w.topo t))
+answer config w (events.Drain c a) = by_term (term_of w c) replies.Ok (λ t. topo_reply (answer_drain w.topo t))
 answer config w (events.Release c) = replies.Ok
 answer config w events.Lapse = replies.Ok
 answer config w (events.Send c a call) = replies.Message (next_message w)
@@ -99,6 +101,7 @@ change config w (events.Take c) = takes w c
 change config w (events.Read c) = by_term (term_of w c) w (reads w c)
 change config w (events.Intend c a) = by_term (term_of w c) w (intends_in w c a)
 change config w (events.Record c a) = by_term (term_of w c) w (records_in w c a)
+change config w (events.Drain c a) = by_term (term_of w c) w (drains_in w c a)
 change config w (events.Release c) = by_term (term_of w c) w (releases_in w c)
 change config w events.Lapse = on_topo w (after_lapse w.topo)
 change config w (events.Send c a call) = asks w c a call
@@ -123,6 +126,7 @@ row_number (events.Take c) = 2
 row_number (events.Read c) = 3
 row_number (events.Intend c a) = 4
 row_number (events.Record c a) = 5
+row_number (events.Drain c a) = 6
 row_number (events.Release c) = 7
 row_number events.Lapse = 8
 row_number (events.Send c a call) = 9

@@ -23,13 +23,8 @@ use Rattle.shard_calls.specs.Deliveries.{by_tablet}
 -- ---- Write, Tell and Local
 
 abbrev pub is_write : Command → Bool
-is_write (commands.Planned shard new_primary avoid expected timeout allow_cross_cell) = false
-is_write (commands.Emergency shard new_primary ignored expected timeout prevent_cross_cell) = false
-is_write (commands.External a) = false
 is_write (commands.Write to) = true
-is_write (commands.Show a) = false
-is_write (commands.GetShard shard) = false
-is_write (commands.GetTablets shard) = false
+is_write _ = false
 
 -- it has written nothing
 abbrev pub may_write : Option CommandState → Bool

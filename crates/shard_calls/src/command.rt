@@ -42,6 +42,8 @@ pub enum Command {
     External {
         alias: Alias,
     },
+    /// `vtorc`: every tablet is asked how it stands, and the first thing amiss that can be repaired is.
+    Vtorc,
     /// One `write`, at this tablet, or else at the recorded primary.
     Write {
         to: Option<Alias>,
@@ -198,6 +200,7 @@ impl Command {
                 *prevent_cross_cell,
             ),
             Command::External { alias } => Ok(Command::External { alias: *alias }),
+            Command::Vtorc => Ok(Command::Vtorc),
             Command::Write { to } => Ok(Command::Write { to: *to }),
             Command::Show { alias } => Ok(Command::Show { alias: *alias }),
             Command::GetShard { shard } => Ok(Command::GetShard { shard: *shard }),

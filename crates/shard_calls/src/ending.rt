@@ -1,6 +1,6 @@
 //! How commands end.
 
-use crate::{Refusal, Standing, Why};
+use crate::{Finding, Refusal, Standing, Why};
 use gtid_sets::{Gtid, GtidSet};
 use shard_base::Items;
 use shard_names::{Alias, ShardName};
@@ -25,6 +25,36 @@ pub enum Left {
 pub struct NotJoined {
     pub alias: Alias,
     pub left: Left,
+}
+
+/// What a `vtorc` did about what it found.
+#[derive(Drop)]
+pub enum Rest {
+    /// The tablet was promoted in this term. These did not join it.
+    Promoted {
+        alias: Alias,
+        term: u64,
+        left: Items<NotJoined>,
+    },
+    /// It was refused. Where it tried to give the old primary its place back, `undone` says whether that worked.
+    Refused {
+        refusal: Refusal,
+        undone: Option<bool>,
+    },
+    /// The tablet replicates from the primary now.
+    Joined {
+        alias: Alias,
+        to: Alias,
+    },
+    /// The tablet did not join the primary.
+    Left {
+        alias: Alias,
+        left: Left,
+    },
+    /// The tablet was marked as drained.
+    Drained {
+        alias: Alias,
+    },
 }
 
 /// What a tablet is shown as: by what was recorded and marked, or else by its declared type.
@@ -66,6 +96,11 @@ pub enum CommandAnswer {
     Refused {
         refusal: Refusal,
         undone: Option<bool>,
+    },
+    /// These tablets had something amiss, in alias order, and this was done about it, in order.
+    Vtorc {
+        findings: Items<Finding>,
+        rest: Items<Rest>,
     },
     /// The write is this transaction, which the tablet wrote in this term, and counts as committed.
     Committed {

@@ -44,6 +44,11 @@ pub enum Event {
         command: u64,
         alias: Alias,
     },
+    /// The tablet is marked as drained.
+    Drain {
+        command: u64,
+        alias: Alias,
+    },
     /// The command frees the lock, if it holds it.
     Release {
         command: u64,

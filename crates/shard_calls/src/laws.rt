@@ -1,7 +1,8 @@
-//! What holds of every tablet. The functions do nothing: each one's contract is a law.
+//! What holds of every tablet, and what is amiss with some. The functions do nothing: each one's contract is a law.
 
 ghost use Rattle.shard_calls.specs.Moves.{TabletMove, TabletMoves};
 ghost use Rattle.shard_calls.specs.Laws.{PromiseNeverFalls, SeenNeverFalls, LogOnlyGrows, KeepsSound, AlwaysSound, AreMoves, RefusalChangesSeenAlone, StaleTermIsRefused};
+ghost use Rattle.shard_calls.specs.AnalysisExamples.{PrimariesAreAnalysed, OthersAreAnalysed};
 
 /// A promise never falls.
 pub fn promise_never_falls()
@@ -41,4 +42,10 @@ pub fn refusal_changes_seen_alone()
 /// A term below the seen one is refused, and changes nothing.
 pub fn stale_term_is_refused()
     ensures { StaleTermIsRefused }
+{}
+
+/// What is amiss with the tablets of small shards: each analysis, of a primary and of the others.
+pub fn worked_analyses()
+    ensures primaries { PrimariesAreAnalysed }
+    ensures others { OthersAreAnalysed }
 {}

@@ -2,6 +2,7 @@
 //! what a tablet is.
 #![tactic(auto)]
 
+mod analysis;
 mod answer;
 mod call;
 mod command;
@@ -19,16 +20,17 @@ mod stand;
 mod state;
 mod why;
 
+pub use analysis::{Analysis, Finding, Snapshot, Status, TabletStatus};
 pub use answer::Answer;
 pub use call::Call;
 pub use command::{Command, EmergencyOptions, PlannedOptions};
-pub use ending::{CommandAnswer, Left, NotJoined, ShownType, TabletRow};
+pub use ending::{CommandAnswer, Left, NotJoined, Rest, ShownType, TabletRow};
 pub use event::{Event, History, Link, Note, Reply, Seen, Side, Step};
 pub use group::Group;
 pub use halt::Halt;
 pub use laws::{
     log_only_grows, promise_never_falls, refusal_changes_seen_alone, rows_are_promised,
-    seen_never_falls, stale_term_is_refused, steps_are_moves,
+    seen_never_falls, stale_term_is_refused, steps_are_moves, worked_analyses,
 };
 pub use outcome::{Accepted, Restarted, Written};
 pub use post::{Content, Message, Settled};

@@ -85,6 +85,10 @@ pub enum Deed {
         alias: Alias,
         reply: Result<(), u64>,
     },
+    Drained {
+        alias: Alias,
+        reply: Result<(), u64>,
+    },
     Asked {
         asked: Asked,
     },

@@ -33,6 +33,11 @@ pub enum Act {
         alias: Alias,
         reply: Result<(), u64>,
     },
+    /// It marked the tablet as drained.
+    Drained {
+        alias: Alias,
+        reply: Result<(), u64>,
+    },
     /// It sent the call with this number.
     Sent {
         message: u64,

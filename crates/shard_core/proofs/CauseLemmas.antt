@@ -35,6 +35,7 @@ refused_cause config w s (commands.Emergency shard new_primary ignored expected 
     (emergency_is_refused (group_of config) (emergency_with new_primary ignored expected timeout preventing) (span_in w.post s) refusal) h
 refused_cause config w s (commands.External a) refusal tried h =
     one_cause refusal tried (external_is_refused (group_of config) a (span_in w.post s) refusal) h
+refused_cause config w s commands.Vtorc refusal tried h = h
 refused_cause config w s (commands.Write to) refusal tried h = h
 refused_cause config w s (commands.Show a) refusal tried h = h
 refused_cause config w s (commands.GetShard shard) refusal tried h = h
@@ -46,6 +47,7 @@ memory_cause config w s command (answers.Refused refusal tried) h = refused_caus
 memory_cause config w s command (answers.Promoted a t left) h = absurd (false≢true h)
 memory_cause config w s command (answers.NothingToDo a) h = absurd (false≢true h)
 memory_cause config w s command (answers.Recorded t) h = absurd (false≢true h)
+memory_cause config w s command (answers.Vtorc findings rest) h = absurd (false≢true h)
 memory_cause config w s command (answers.Committed g a t) h = absurd (false≢true h)
 memory_cause config w s command (answers.NotPrimary a at) h = absurd (false≢true h)
 memory_cause config w s command answers.NoPrimaryRecorded h = absurd (false≢true h)

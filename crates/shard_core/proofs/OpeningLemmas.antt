@@ -2,7 +2,7 @@
 use Rattle.std.proofs.Common.{◌≡◌, ℕ, zero, suc, ◌<◌, List, [], ◌∷◌, ◌++◌, Bool, true, false, cond, Some, None, map, take, get_or, length, Contains, IsTrue, nat_lt, refl, ap, sym, subst, ◌∙◌, arith}
 use Rattle.std.proofs.lemmas.List.Elements.{Contains-get_or}
 use Rattle.std.specs.List.{AllByRecursion, slice_get}
-use Rattle.shard_names.specs.Tablets.{AreTablets, alias_eq}
+use Rattle.shard_names.specs.Tablets.{AliasesRise, AreTablets, alias_eq}
 use Rattle.shard_names.specs.declared.alias.Alias.{Alias}
 use Rattle.shard_names.specs.declared.tablet.Tablet.{Tablet}
 use Rattle.durability.specs.declared.policy.Durability.{Durability}
@@ -76,12 +76,13 @@ abbrev pub main_alone : List ActorState
 main_alone = idle_actor main_name ∷ []
 
 -- nothing sent, cut, begun or past
-abbrev pub nothing_done : List Managed → Durability → List Alias → ℕ → Data
-nothing_done ms policy aliases moment = record {
+abbrev pub nothing_done : List Managed → Durability → ℕ → List Alias → ℕ → Data
+nothing_done ms policy marks aliases moment = record {
   managers = ms;
   policy = policy;
   moment = moment;
   topo = fresh;
+  marks = marks;
   aliases = aliases;
   messages = [];
   clock = moment;
@@ -91,9 +92,9 @@ nothing_done ms policy aliases moment = record {
 }
 
 pub leads_opening : (g : Group) (moment : ℕ) (ms : List Managed) → AreTablets g.tablets → IsTrue (nat_lt moment 253370764800000) → AreOpened g (length g.tablets) ms
-    → Leads (nothing_done ms g.policy (aliases_of g.tablets) moment) []
+    → Leads (nothing_done ms g.policy (length g.tablets) (aliases_of g.tablets) moment) []
 leads_opening g moment ms are begins h =
-    let d : Data = nothing_done ms g.policy (aliases_of g.tablets) moment in
+    let d : Data = nothing_done ms g.policy (length g.tablets) (aliases_of g.tablets) moment in
     let same : tablets_of ms ≡ g.tablets = tablets_opened g ms h in
     let kept : g ≡ group_in d = (λ i. record { tablets = sym same i; policy = g.policy }) in
     let opens : seen d ≡ opening (config_in d) = λ i. record (opening (config_in d)) { tablets = λ a. state_opened g ms a h.each i } in
@@ -104,6 +105,11 @@ leads_opening g moment ms are begins h =
       world = opens;
       few = subst (λ (w : World). AreFew 0 w) (sym opens) (few_opening (config_in d));
       sound = subst (λ (w : World). AreSound (config_in d) w) (sym opens) (sound_opening (config_in d));
-      fits = record { aliases = ap (λ (us : List Tablet). aliases_of us) (sym same); group = subst (λ (x : Group). AllByRecursion (λ y. y ≡ x) (groups_in ms)) kept (groups_opened g ms h.each) };
+      fits = record {
+        aliases = ap (λ (us : List Tablet). aliases_of us) (sym same);
+        order = subst (λ (us : List Tablet). AliasesRise us) (sym same) are.in_order;
+        marks = ap (λ (us : List Tablet). length us) (sym same);
+        group = subst (λ (x : Group). AllByRecursion (λ y. y ≡ x) (groups_in ms)) kept (groups_opened g ms h.each);
+      };
       room = omega arith;
     }

@@ -5,7 +5,7 @@ use Rattle.shard_base.specs.Options.{◌>>=◌}
 use Rattle.shard_names.specs.declared.alias.Alias.{Alias}
 use Rattle.shard_names.specs.declared.tablet.Tablet.{Tablet}
 use Rattle.shard_names.specs.Tablets.{tablet_of}
-use Rattle.topo_lock.specs.Topology.{answer_take, answer_intend, answer_record}
+use Rattle.topo_lock.specs.Topology.{answer_take, answer_intend, answer_record, answer_drain}
 use Rattle.topo_lock.specs.declared.lock.LockTaken.{LockTaken}
 use Rattle.topo_lock.specs.declared.lock.TopoFault.{TopoFault}
 use Rattle.topo_lock.specs.declared.lock.TopoFault.TheVariants as faults
@@ -29,7 +29,7 @@ use Rattle.shard_calls.specs.Tablets.{TabletState}
 use Rattle.shard_calls.specs.World.{Config, World, changed, changed_at, numbered, if_open, open_command, term_of, with_act, next_message, on_message, arrives}
 use Rattle.shard_calls.specs.Begins.{begun_state, ends_by}
 use Rattle.shard_calls.specs.Causes.{has_cause}
-use Rattle.shard_calls.specs.Locks.{as_released, by_term, intends_in, read_act, reads, records_in, releases_in, takes_by, with_intended, with_recorded, with_taken}
+use Rattle.shard_calls.specs.Locks.{as_released, by_term, drains_in, intends_in, read_act, reads, records_in, releases_in, takes_by, with_drained, with_intended, with_recorded, with_taken}
 use Rattle.shard_calls.specs.Messages.{why_given_up, offer_to}
 use Rattle.shard_calls.specs.Deliveries.{after_arrival, after_delivery, asked, fed, feed_verdict, gives_up, if_declared, offers}
 use Rattle.shard_calls.specs.Writes.{tell_of, told_act, with_told, with_written, write_verdict, writes_at, writes_in}
@@ -120,6 +120,11 @@ recorded_debt a (Ok u) s = refl
 recorded_debt a (Err (faults.LockLost current)) s = refl
 recorded_debt a (Err (faults.IntentStands b)) s = refl
 
+drained_debt : (a : Alias) (r : Result (Unit {0}) TopoFault) (s : CommandState) → debt (with_drained a r s) ≡ debt s
+drained_debt a (Ok u) s = refl
+drained_debt a (Err (faults.LockLost current)) s = refl
+drained_debt a (Err (faults.IntentStands b)) s = refl
+
 written_debt : (a : Alias) (old : TabletState) (x : Written) (s : CommandState) → debt (with_written a old x s) ≡ debt s
 written_debt a old (writtens.Entry g) s = refl
 written_debt a old (writtens.NotPrimary at) s = refl
@@ -139,6 +144,10 @@ intend_owed w c a (Some t) = kept_at w.commands c (with_intended a (answer_inten
 record_owed : (w : World) (c : ℕ) (a : Alias) (o : Option ℕ) → owed_in (by_term o w (records_in w c a)) ≡ owed_in w
 record_owed w c a None = refl
 record_owed w c a (Some t) = kept_at w.commands c (with_recorded a (answer_record w.topo t)) (recorded_debt a (answer_record w.topo t))
+
+drain_owed : (w : World) (c : ℕ) (a : Alias) (o : Option ℕ) → owed_in (by_term o w (drains_in w c a)) ≡ owed_in w
+drain_owed w c a None = refl
+drain_owed w c a (Some t) = kept_at w.commands c (with_drained a (answer_drain w.topo t)) (drained_debt a (answer_drain w.topo t))
 
 release_owed : (w : World) (c : ℕ) (o : Option ℕ) → is_some o ≡ true
     → owed_in (by_term o w (releases_in w c)) ≡ owed_released (owed_in w) (is_unreleased (open_command w c))
@@ -196,6 +205,7 @@ owed_on config w (events.Take c) met = take_owed w c (open_command w c)
 owed_on config w (events.Read c) met = read_owed w c (term_of w c)
 owed_on config w (events.Intend c a) met = intend_owed w c a (term_of w c)
 owed_on config w (events.Record c a) met = record_owed w c a (term_of w c)
+owed_on config w (events.Drain c a) met = drain_owed w c a (term_of w c)
 owed_on config w (events.Release c) met = release_owed w c (term_of w c) met
 owed_on config w events.Lapse met = refl
 owed_on config w (events.Send c a call) met = kept_at w.commands c (with_act (acts.Sent (next_message w))) (λ x. refl)
@@ -257,6 +267,7 @@ room_kept config w (events.Take c) met kept = absurd (false≢true kept)
 room_kept config w (events.Read c) met kept = absurd (false≢true kept)
 room_kept config w (events.Intend c a) met kept = absurd (false≢true kept)
 room_kept config w (events.Record c a) met kept = absurd (false≢true kept)
+room_kept config w (events.Drain c a) met kept = absurd (false≢true kept)
 room_kept config w (events.Release c) met kept =
     first_takes (owed_of w.commands) (is_unreleased (open_command w c)) (owed_of (changed_at w.commands c as_released)) kept (released_at w.commands c)
 room_kept config w events.Lapse met kept = absurd (false≢true kept)
@@ -282,6 +293,7 @@ kept_at_once w (events.Take c) kept = refl
 kept_at_once w (events.Read c) kept = refl
 kept_at_once w (events.Intend c a) kept = refl
 kept_at_once w (events.Record c a) kept = refl
+kept_at_once w (events.Drain c a) kept = refl
 kept_at_once w (events.Release c) kept = refl
 kept_at_once w events.Lapse kept = refl
 kept_at_once w (events.Send c a call) kept = refl
@@ -306,6 +318,7 @@ kept_takes_none w (events.Take c) kept = absurd (false≢true kept)
 kept_takes_none w (events.Read c) kept = absurd (false≢true kept)
 kept_takes_none w (events.Intend c a) kept = absurd (false≢true kept)
 kept_takes_none w (events.Record c a) kept = absurd (false≢true kept)
+kept_takes_none w (events.Drain c a) kept = absurd (false≢true kept)
 kept_takes_none w (events.Release c) kept = refl
 kept_takes_none w events.Lapse kept = absurd (false≢true kept)
 kept_takes_none w (events.Send c a call) kept = absurd (false≢true kept)
@@ -339,6 +352,7 @@ owed_most w n (events.Take c) = omega arith
 owed_most w n (events.Read c) = omega arith
 owed_most w n (events.Intend c a) = omega arith
 owed_most w n (events.Record c a) = omega arith
+owed_most w n (events.Drain c a) = omega arith
 owed_most w n (events.Release c) = omega (arith, owed_released_most n (is_unreleased (open_command w c)))
 owed_most w n events.Lapse = omega arith
 owed_most w n (events.Send c a call) = omega arith
@@ -378,6 +392,7 @@ same_room d ss (events.Take c) = refl
 same_room d ss (events.Read c) = refl
 same_room d ss (events.Intend c a) = refl
 same_room d ss (events.Record c a) = refl
+same_room d ss (events.Drain c a) = refl
 same_room d ss (events.Release c) = refl
 same_room d ss events.Lapse = refl
 same_room d ss (events.Send c a call) = refl

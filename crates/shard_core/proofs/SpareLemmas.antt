@@ -4,7 +4,7 @@ use Rattle.shard_base.specs.Options.{◌>>=◌, only_if}
 use Rattle.shard_names.specs.declared.alias.Alias.{Alias}
 use Rattle.shard_names.specs.declared.tablet.Tablet.{Tablet}
 use Rattle.shard_names.specs.Tablets.{tablet_of}
-use Rattle.topo_lock.specs.Topology.{Topology, is_held_in, answer_take, answer_intend, answer_record}
+use Rattle.topo_lock.specs.Topology.{Topology, is_held_in, answer_take, answer_intend, answer_record, answer_drain}
 use Rattle.topo_lock.specs.declared.lock.LockTaken.{LockTaken}
 use Rattle.topo_lock.specs.declared.lock.TopoFault.{TopoFault}
 use Rattle.topo_lock.specs.declared.lock.TopoFault.TheVariants as faults
@@ -106,6 +106,7 @@ spare_fits config w (events.Take c) = taken_nothing (answer_take w.topo)
 spare_fits config w (events.Read c) = read_spare w (term_of w c)
 spare_fits config w (events.Intend c a) = term_nothing (term_of w c) _ (λ t. topo_nothing (answer_intend w.topo t a))
 spare_fits config w (events.Record c a) = term_nothing (term_of w c) _ (λ t. topo_nothing (answer_record w.topo t))
+spare_fits config w (events.Drain c a) = term_nothing (term_of w c) _ (λ t. topo_nothing (answer_drain w.topo t))
 spare_fits config w (events.Release c) = tt
 spare_fits config w events.Lapse = tt
 spare_fits config w (events.Send c a call) = tt

@@ -32,6 +32,7 @@ is_told_at_once (events.Take c) = true
 is_told_at_once (events.Read c) = true
 is_told_at_once (events.Intend c a) = true
 is_told_at_once (events.Record c a) = true
+is_told_at_once (events.Drain c a) = true
 is_told_at_once (events.Release c) = true
 is_told_at_once events.Lapse = true
 is_told_at_once (events.Send c a call) = true

@@ -35,6 +35,9 @@ pub(crate) fn meets_at_once(fields: &Fields, event: &Event, found: &Found) -> bo
             let term = term_of(&fields.commands, *command);
             is_declared(&fields.managers, alias) && may_record(&fields.topo, alias, term)
         }
+        Event::Drain { command, alias } => {
+            is_declared(&fields.managers, alias) && term_of(&fields.commands, *command).is_some()
+        }
         Event::Release { command } => term_of(&fields.commands, *command).is_some(),
         Event::Lapse => true,
         Event::Send {
@@ -87,6 +90,7 @@ pub(crate) fn row_number(event: &Event) -> u8
         Event::Read { .. } => 3,
         Event::Intend { .. } => 4,
         Event::Record { .. } => 5,
+        Event::Drain { .. } => 6,
         Event::Release { .. } => 7,
         Event::Lapse => 8,
         Event::Send { .. } => 9,

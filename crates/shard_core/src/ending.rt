@@ -1,7 +1,7 @@
 //! With which answers an open command may end.
 
 ghost use Rattle.std.specs.Prelude.{◌≡◌, ◌&&◌, true, IsOk, IfOk};
-ghost use Rattle.shard_calls.specs.Causes.{has_write_cause, has_external_cause, has_tablets_cause, has_command_cause, has_cause};
+ghost use Rattle.shard_calls.specs.Causes.{has_write_cause, has_external_cause, has_vtorc_cause, has_tablets_cause, has_command_cause, has_cause};
 ghost use Rattle.shard_calls.specs.Commands.{planned_options, emergency_options};
 ghost use Rattle.shard_calls.specs.Spans.{span_in};
 ghost use Rattle.shard_calls.specs.Stands.{is_primary_of};
@@ -12,7 +12,7 @@ ghost use Rattle.shard_core.specs.Causes.{planned_cause, emergency_cause, is_out
 
 use causes::{
     has_emergency_cause, has_external_cause, has_planned_cause, has_shard_cause, has_show_cause,
-    has_tablets_cause, has_write_cause,
+    has_tablets_cause, has_vtorc_cause, has_write_cause,
 };
 use shard_base::OutOfMemory;
 use shard_calls::{
@@ -70,6 +70,19 @@ fn external_cause(
     let span = span_of(fields.alloc, &fields.post, state)?;
     let group = group_of(fields.alloc, fields)?;
     Ok(has_external_cause(&group, alias, &span, answer))
+}
+
+/// Of a repair of what is amiss.
+fn vtorc_cause(
+    fields: &Fields,
+    state: &CommandState,
+    answer: &CommandAnswer,
+) -> Result<bool, OutOfMemory>
+    ensures { IfOk result (λ b. b ≡ has_vtorc_cause (group_in (data_of fields.now)) state.now (span_in (data_of fields.now).messages state.now) answer.now) }
+{
+    let span = span_of(fields.alloc, &fields.post, state)?;
+    let group = group_of(fields.alloc, fields)?;
+    has_vtorc_cause(fields.alloc, &group, state, &span, answer)
 }
 
 // ---- of a write
@@ -144,6 +157,7 @@ fn command_cause(
         Command::Planned { .. } => planned_cause(fields, state, answer),
         Command::Emergency { .. } => emergency_cause(fields, state, answer),
         Command::External { alias } => external_cause(fields, alias, state, answer),
+        Command::Vtorc => vtorc_cause(fields, state, answer),
         Command::Write { to } => Ok(write_cause(fields, to, state, answer)),
         Command::Show { alias } => Ok(has_show_cause(alias, state, answer)),
         Command::GetShard { shard } => Ok(has_shard_cause(shard, state, answer)),

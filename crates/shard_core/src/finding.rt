@@ -88,6 +88,7 @@ pub(crate) fn find(fields: &Fields, event: &Event) -> Found
         Event::Read { .. } => nothing(),
         Event::Intend { .. } => nothing(),
         Event::Record { .. } => nothing(),
+        Event::Drain { .. } => nothing(),
         Event::Release { .. } => nothing(),
         Event::Lapse => nothing(),
         Event::Send { .. } => nothing(),

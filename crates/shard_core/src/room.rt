@@ -59,6 +59,7 @@ pub(crate) fn owed_after(fields: &Fields, owed: u64, event: &Event) -> u64
         Event::Read { .. } => owed,
         Event::Intend { .. } => owed,
         Event::Record { .. } => owed,
+        Event::Drain { .. } => owed,
         Event::Release { command } => owed_released(
             owed,
             is_unreleased(&fields.commands, *command),

@@ -37,8 +37,8 @@ use topo_lock::{Intent, Record, Topo};
 /// Why the machine made no step. It then stands as it was.
 #[derive(Clone, Copy, Debug, PartialEq, Eq)]
 pub enum Refused {
-    /// The condition of the event's row does not hold. The rows are Begin 1, Take 2, Read 3, Intend 4, Record 5, Release 7, Lapse 8, Send 9,
-    /// Deliver 10, GiveUp 11, Offer 12, Write 13, Tell 14, Local 15, Crash 16, Restart 17, Cut and Mend 18, Lose 19, Tick 20, End 22.
+    /// The condition of the event's row does not hold. The rows are Begin 1, Take 2, Read 3, Intend 4, Record 5, Drain 6, Release 7,
+    /// Lapse 8, Send 9, Deliver 10, GiveUp 11, Offer 12, Write 13, Tell 14, Local 15, Crash 16, Restart 17, Cut and Mend 18, Lose 19, Tick 20, End 22.
     Unmet { row: u8 },
     /// The history has all the steps that it may have.
     Full,
@@ -317,7 +317,7 @@ impl Shard {
         self.fields.clock
     }
 
-    /// The lock, the intents and the record. It takes no memory.
+    /// The lock, the intents, the record and the marks. It takes no memory.
     pub fn topo(&self) -> &Topo
         ensures { result.now.topology ≡ (world_of self.now).topo }
     {

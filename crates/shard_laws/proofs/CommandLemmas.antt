@@ -10,7 +10,7 @@ use Rattle.shard_names.specs.Tablets.{is_declared, tablet_of}
 use Rattle.shard_names.proofs.TabletLemmas.{both_right}
 use Rattle.gtid_sets.specs.declared.entry.Kind.TheVariants as kinds
 use Rattle.gtid_sets.specs.Logs.{next_gtid}
-use Rattle.topo_lock.specs.Topology.{answer_take, answer_intend, answer_record}
+use Rattle.topo_lock.specs.Topology.{answer_take, answer_intend, answer_record, answer_drain}
 use Rattle.topo_lock.specs.declared.lock.LockTaken.{LockTaken}
 use Rattle.topo_lock.specs.declared.lock.TopoFault.{TopoFault}
 use Rattle.topo_lock.specs.declared.lock.TopoFault.TheVariants as faults
@@ -29,7 +29,7 @@ use Rattle.shard_calls.specs.Tablets.{Verdict, only_says, writes_own}
 use Rattle.shard_calls.specs.World.{Config, World, opening, numbered, changed_at, with_act, open_command, term_of}
 use Rattle.shard_calls.specs.Messages.{why_given_up, offer_to}
 use Rattle.shard_calls.specs.Begins.{begun_state, ends_by}
-use Rattle.shard_calls.specs.Locks.{takes_by, with_taken, by_term, reads, intends_in, with_intended, records_in, with_recorded, as_released, releases_in}
+use Rattle.shard_calls.specs.Locks.{takes_by, with_taken, by_term, reads, intends_in, with_intended, records_in, with_recorded, drains_in, with_drained, as_released, releases_in}
 use Rattle.shard_calls.specs.Deliveries.{if_declared}
 use Rattle.shard_calls.specs.Writes.{may_write, is_write, writes_in, writes_at, written_reply, write_reply, write_verdict, with_written, told_act, with_told, tell_of}
 use Rattle.shard_calls.specs.Table.{after, answer, Met, IsStep, IsRun}
@@ -97,6 +97,11 @@ recorded_keeps : (a : Alias) (r : Result (Unit {0}) TopoFault) (x : CommandState
 recorded_keeps a (Ok u) x = (refl, refl, refl, refl)
 recorded_keeps a (Err (faults.LockLost current)) x = (refl, refl, refl, refl)
 recorded_keeps a (Err (faults.IntentStands b)) x = (refl, refl, refl, refl)
+
+drained_keeps : (a : Alias) (r : Result (Unit {0}) TopoFault) (x : CommandState) → Keeps x (with_drained a r x)
+drained_keeps a (Ok u) x = (refl, refl, refl, refl)
+drained_keeps a (Err (faults.LockLost current)) x = (refl, refl, refl, refl)
+drained_keeps a (Err (faults.IntentStands b)) x = (refl, refl, refl, refl)
 
 act_change : (config : Config) (w : World) (e : Event) (d : ℕ) (act : Act) → Change config w e (changed_at w.commands d (with_act act))
 act_change config w e d act = changes config w e d (with_act act) (λ s. (refl, refl, refl, refl))
@@ -169,6 +174,8 @@ change_of config w (events.Intend d a) met =
     by_change config w _ (intends_in w d a) (term_of w d) (λ t. changes config w (events.Intend d a) d _ (intended_keeps a (answer_intend w.topo t a)))
 change_of config w (events.Record d a) met =
     by_change config w _ (records_in w d a) (term_of w d) (λ t. changes config w (events.Record d a) d _ (recorded_keeps a (answer_record w.topo t)))
+change_of config w (events.Drain d a) met =
+    by_change config w _ (drains_in w d a) (term_of w d) (λ t. changes config w (events.Drain d a) d _ (drained_keeps a (answer_drain w.topo t)))
 change_of config w (events.Release d) met =
     by_change config w _ (releases_in w d) (term_of w d) (λ t. changes config w (events.Release d) d as_released (λ s. (refl, refl, refl, refl)))
 change_of config w events.Lapse met = Same

@@ -13,10 +13,11 @@ use Rattle.topo_lock.specs.declared.intent.Record.{Record}
 use Rattle.shard_names.proofs.TabletLemmas.{both_left, both_right, alias_eq_is}
 use Rattle.gtid_sets.specs.declared.gtid.Gtid.{Gtid}
 use Rattle.gtid_sets.specs.Position.{Position}
-use Rattle.topo_lock.specs.Topology.{Topology, is_held_in, answer_take, answer_intend, answer_record}
+use Rattle.topo_lock.specs.Topology.{Topology, is_held_in, answer_take, answer_intend, answer_record, answer_drain}
 use Rattle.topo_lock.specs.declared.lock.LockTaken.{LockTaken}
 use Rattle.topo_lock.specs.declared.lock.TopoFault.{TopoFault}
 use Rattle.topo_lock.specs.declared.lock.TopoFault.TheVariants as faults
+use Rattle.shard_calls.specs.declared.call.Call.{Call}
 use Rattle.shard_calls.specs.declared.command.Command.{Command}
 use Rattle.shard_calls.specs.declared.command.Command.TheVariants as commands
 use Rattle.shard_calls.specs.declared.ending.CommandAnswer.{CommandAnswer}
@@ -42,14 +43,14 @@ use Rattle.shard_calls.specs.declared.ending.ShownType.{ShownType}
 use Rattle.shard_calls.specs.declared.ending.ShownType.TheVariants as shown_types
 use Rattle.shard_calls.specs.declared.ending.TabletRow.{TabletRow}
 use Rattle.shard_calls.specs.Spans.{span_in}
-use Rattle.shard_calls.specs.World.{Config, World, open_command, term_of}
+use Rattle.shard_calls.specs.World.{Config, World, next_message, open_command, term_of}
 use Rattle.shard_calls.specs.Causes.{is_some_of, is_promoted_answer, is_told_answer, any_said_in, leaves_out, is_promoted, row_of, wrote_this, is_told_act, says_not_primary, showed, has_command_cause, has_cause}
 use Rattle.shard_calls.specs.Same.{standing_eq, shard_name_eq, record_eq, record_or_none_eq, shown_type_eq, rows_eq}
 use Rattle.shard_calls.specs.Locks.{taken_reply, by_term, seen_of, read_reply, topo_reply}
 use Rattle.shard_calls.specs.Deliveries.{if_declared}
 use Rattle.shard_calls.specs.Writes.{written_reply, write_reply, write_verdict, tell_of}
 use Rattle.shard_calls.specs.Table.{answer}
-use Rattle.shard_calls.specs.Answered.{taken_by_reply, read_by_reply, intended_by_reply, recorded_by_reply, written_by_reply, told_by_reply, act_of, acts_of}
+use Rattle.shard_calls.specs.Answered.{taken_by_reply, read_by_reply, intended_by_reply, recorded_by_reply, drained_by_reply, written_by_reply, told_by_reply, act_of, acts_of}
 
 -- ---- tests
 
@@ -117,6 +118,7 @@ pub committed_cause : (config : Config) (w : World) (s : CommandState) (command 
 committed_cause config w s (commands.Planned shard given avoid expected timeout allow_cross_cell) g a t h = absurd (false≢true h)
 committed_cause config w s (commands.Emergency shard given ignored expected timeout prevent_cross_cell) g a t h = absurd (false≢true h)
 committed_cause config w s (commands.External b) g a t h = absurd (false≢true h)
+committed_cause config w s commands.Vtorc g a t h = absurd (false≢true h)
 committed_cause config w s (commands.GetShard shard) g a t h = absurd (false≢true h)
 committed_cause config w s (commands.GetTablets shard) g a t h = absurd (false≢true h)
 committed_cause config w s (commands.Write to) g a t h = h
@@ -128,6 +130,7 @@ pub unknown_cause : (config : Config) (w : World) (s : CommandState) (command : 
 unknown_cause config w s (commands.Planned shard given avoid expected timeout allow_cross_cell) g a t h = absurd (false≢true h)
 unknown_cause config w s (commands.Emergency shard given ignored expected timeout prevent_cross_cell) g a t h = absurd (false≢true h)
 unknown_cause config w s (commands.External b) g a t h = absurd (false≢true h)
+unknown_cause config w s commands.Vtorc g a t h = absurd (false≢true h)
 unknown_cause config w s (commands.GetShard shard) g a t h = absurd (false≢true h)
 unknown_cause config w s (commands.GetTablets shard) g a t h = absurd (false≢true h)
 unknown_cause config w s (commands.Write to) g a t h = h
@@ -138,6 +141,7 @@ pub not_primary_cause : (config : Config) (w : World) (s : CommandState) (comman
 not_primary_cause config w s (commands.Planned shard given avoid expected timeout allow_cross_cell) a at h = absurd (false≢true h)
 not_primary_cause config w s (commands.Emergency shard given ignored expected timeout prevent_cross_cell) a at h = absurd (false≢true h)
 not_primary_cause config w s (commands.External b) a at h = absurd (false≢true h)
+not_primary_cause config w s commands.Vtorc a at h = absurd (false≢true h)
 not_primary_cause config w s (commands.GetShard shard) a at h = absurd (false≢true h)
 not_primary_cause config w s (commands.GetTablets shard) a at h = absurd (false≢true h)
 not_primary_cause config w s (commands.Write to) a at h = h
@@ -148,6 +152,7 @@ pub no_primary_cause : (config : Config) (w : World) (s : CommandState) (command
 no_primary_cause config w s (commands.Planned shard given avoid expected timeout allow_cross_cell) h = absurd (false≢true h)
 no_primary_cause config w s (commands.Emergency shard given ignored expected timeout prevent_cross_cell) h = absurd (false≢true h)
 no_primary_cause config w s (commands.External b) h = absurd (false≢true h)
+no_primary_cause config w s commands.Vtorc h = absurd (false≢true h)
 no_primary_cause config w s (commands.GetShard shard) h = absurd (false≢true h)
 no_primary_cause config w s (commands.GetTablets shard) h = absurd (false≢true h)
 no_primary_cause config w s (commands.Write to) h = (
@@ -161,6 +166,7 @@ pub shown_cause : (config : Config) (w : World) (s : CommandState) (command : Co
 shown_cause config w s (commands.Planned shard given avoid expected timeout allow_cross_cell) a at p h = absurd (false≢true h)
 shown_cause config w s (commands.Emergency shard given ignored expected timeout prevent_cross_cell) a at p h = absurd (false≢true h)
 shown_cause config w s (commands.External b) a at p h = absurd (false≢true h)
+shown_cause config w s commands.Vtorc a at p h = absurd (false≢true h)
 shown_cause config w s (commands.GetShard shard) a at p h = absurd (false≢true h)
 shown_cause config w s (commands.GetTablets shard) a at p h = absurd (false≢true h)
 shown_cause config w s (commands.Write to) a at p h = absurd (false≢true h)
@@ -197,6 +203,7 @@ pub shard_cause : (config : Config) (w : World) (s : CommandState) (command : Co
 shard_cause config w s (commands.Planned given new_primary avoid expected timeout allow_cross_cell) shard recorded h = absurd (false≢true h)
 shard_cause config w s (commands.Emergency given new_primary ignored expected timeout prevent_cross_cell) shard recorded h = absurd (false≢true h)
 shard_cause config w s (commands.External b) shard recorded h = absurd (false≢true h)
+shard_cause config w s commands.Vtorc shard recorded h = absurd (false≢true h)
 shard_cause config w s (commands.Write to) shard recorded h = absurd (false≢true h)
 shard_cause config w s (commands.Show b) shard recorded h = absurd (false≢true h)
 shard_cause config w s (commands.GetShard given) shard recorded h =
@@ -259,13 +266,14 @@ pub tablets_cause : (config : Config) (w : World) (s : CommandState) (command : 
 tablets_cause config w s (commands.Planned given new_primary avoid expected timeout allow_cross_cell) rows h = absurd (false≢true h)
 tablets_cause config w s (commands.Emergency given new_primary ignored expected timeout prevent_cross_cell) rows h = absurd (false≢true h)
 tablets_cause config w s (commands.External b) rows h = absurd (false≢true h)
+tablets_cause config w s commands.Vtorc rows h = absurd (false≢true h)
 tablets_cause config w s (commands.Write to) rows h = absurd (false≢true h)
 tablets_cause config w s (commands.Show b) rows h = absurd (false≢true h)
 tablets_cause config w s (commands.GetShard given) rows h = absurd (false≢true h)
 tablets_cause config w s (commands.GetTablets given) rows h = (given, refl, rows_are rows (map (row_of s.opening.seen) config.tablets) h)
 
 -- its WaitTold of the term was answered so
-told_so : (s : CommandState) (span : List Deed) (a : Alias) (t : ℕ) (left : List NotJoined) → is_promoted s span a t left ≡ true
+pub told_so : (s : CommandState) (span : List Deed) (a : Alias) (t : ℕ) (left : List NotJoined) → is_promoted s span a t left ≡ true
     → any_said_in t kinds.WaitTold a is_told_answer span ≡ true
 told_so s span a t left h =
     let first : Bool = is_some_of s.term t && any_said_in t kinds.Promote a is_promoted_answer span in
@@ -277,6 +285,7 @@ pub told_cause : (config : Config) (w : World) (s : CommandState) (command : Com
 told_cause config w s (commands.Planned shard given avoid expected timeout allow_cross_cell) a t left h = told_so s (span_in w.post s) a t left h
 told_cause config w s (commands.Emergency shard given ignored expected timeout prevent_cross_cell) a t left h = told_so s (span_in w.post s) a t left h
 told_cause config w s (commands.External b) a t left h = absurd (false≢true h)
+told_cause config w s commands.Vtorc a t left h = absurd (false≢true h)
 told_cause config w s (commands.GetShard shard) a t left h = absurd (false≢true h)
 told_cause config w s (commands.GetTablets shard) a t left h = absurd (false≢true h)
 told_cause config w s (commands.Write to) a t left h = absurd (false≢true h)
@@ -291,7 +300,9 @@ is_shown (acts.Read (Err t)) = false
 is_shown (acts.Intended a reply) = false
 is_shown (acts.Recorded a (Ok x)) = true
 is_shown (acts.Recorded a (Err t)) = false
-is_shown (acts.Sent k) = false
+is_shown (acts.Drained a (Ok x)) = true
+is_shown (acts.Drained a (Err t)) = false
+is_shown (acts.Sent k) = true
 is_shown (acts.Wrote a reply) = true
 is_shown (acts.Told committed) = true
 
@@ -299,6 +310,8 @@ is_shown (acts.Told committed) = true
 pub data DoneBy (c : ℕ) : Event → Reply → Act → Type 0 where
   ByRead : (seen : Seen) → DoneBy c (events.Read c) (replies.Read seen) (acts.Read (Ok seen))
   ByRecord : (a : Alias) → DoneBy c (events.Record c a) replies.Ok (acts.Recorded a (Ok tt))
+  ByDrain : (a : Alias) → DoneBy c (events.Drain c a) replies.Ok (acts.Drained a (Ok tt))
+  BySend : (a : Alias) (call : Call) (k : ℕ) → DoneBy c (events.Send c a call) (replies.Message k) (acts.Sent k)
   ByTold : DoneBy c (events.Tell c) replies.Told (acts.Told true)
   ByGone : DoneBy c (events.Tell c) replies.Gone (acts.Told false)
   ByEntry : (a : Alias) (g : Gtid) → DoneBy c (events.Write c a) (replies.Wrote g) (acts.Wrote a (Ok g))
@@ -367,6 +380,24 @@ record_done : (c : ℕ) (a : Alias) (act : Act) (f : ℕ → Result (Unit {0}) T
 record_done c a act f None is h = recorded_done c a act (Ok tt) is h
 record_done c a act f (Some t) is h = recorded_done c a act (f t) is h
 
+drained_done : (c : ℕ) (a : Alias) (act : Act) (r : Result (Unit {0}) TopoFault) → drained_by_reply a (topo_reply r) ≡ Some act → is_shown act ≡ true
+    → DoneBy c (events.Drain c a) (topo_reply r) act
+drained_done c a act (Ok u) is h =
+    let same : acts.Drained a (Ok tt) ≡ act = (let some : Some (acts.Drained a (Ok tt)) ≡ Some act = is in cc) in
+    subst (λ (x : Act). DoneBy c (events.Drain c a) replies.Ok x) same (ByDrain a)
+drained_done c a act (Err (faults.LockLost current)) is h = absurd (quiet_some (acts.Drained a (Err current)) refl act is h)
+drained_done c a act (Err (faults.IntentStands b)) is h = absurd (quiet_none act is h)
+
+drain_done : (c : ℕ) (a : Alias) (act : Act) (f : ℕ → Result (Unit {0}) TopoFault) (o : Option ℕ) → drained_by_reply a (by_term o replies.Ok (λ t. topo_reply (f t))) ≡ Some act
+    → is_shown act ≡ true → DoneBy c (events.Drain c a) (by_term o replies.Ok (λ t. topo_reply (f t))) act
+drain_done c a act f None is h = drained_done c a act (Ok tt) is h
+drain_done c a act f (Some t) is h = drained_done c a act (f t) is h
+
+sent_done : (c : ℕ) (a : Alias) (call : Call) (k : ℕ) (act : Act) → Some (acts.Sent k) ≡ Some act → DoneBy c (events.Send c a call) (replies.Message k) act
+sent_done c a call k act is =
+    let same : acts.Sent k ≡ act = (let some : Some (acts.Sent k) ≡ Some act = is in cc) in
+    subst (λ (x : Act). DoneBy c (events.Send c a call) (replies.Message k) x) same (BySend a call k)
+
 written : (c : ℕ) (a : Alias) (says : Written) (act : Act) → written_by_reply a (written_reply says) ≡ Some act → DoneBy c (events.Write c a) (written_reply says) act
 written c a (writtens.Entry g) act is =
     let same : acts.Wrote a (Ok g) ≡ act = (let some : Some (acts.Wrote a (Ok g)) ≡ Some act = is in cc) in
@@ -426,7 +457,10 @@ done_by config w c (events.Read d) act is h =
 done_by config w c (events.Intend d a) act is h = absurd (quiet_own (d == c) _ (intend_quiet a (λ t. answer_intend w.topo t a) (term_of w d)) act is h)
 done_by config w c (events.Record d a) act is h =
     own_act (λ n x. DoneBy n (events.Record d a) (answer config w (events.Record d a)) x) d c _ act is (λ one. record_done d a act (λ t. answer_record w.topo t) (term_of w d) one h)
-done_by config w c (events.Send d a call) act is h = absurd (quiet_own (d == c) _ (quiet_some _ refl) act is h)
+done_by config w c (events.Drain d a) act is h =
+    own_act (λ n x. DoneBy n (events.Drain d a) (answer config w (events.Drain d a)) x) d c _ act is (λ one. drain_done d a act (λ t. answer_drain w.topo t) (term_of w d) one h)
+done_by config w c (events.Send d a call) act is h =
+    own_act (λ n x. DoneBy n (events.Send d a call) (answer config w (events.Send d a call)) x) d c _ act is (λ one. sent_done d a call (next_message w) act one)
 done_by config w c (events.Write d a) act is h =
     own_act (λ n x. DoneBy n (events.Write d a) (answer config w (events.Write d a)) x) d c _ act is (λ one. write_done config w d a act (open_command w d) one)
 done_by config w c (events.Tell d) act is h =
@@ -437,6 +471,7 @@ told_act (acts.Took reply) h = absurd (false≢true h)
 told_act (acts.Read reply) h = absurd (false≢true h)
 told_act (acts.Intended a reply) h = absurd (false≢true h)
 told_act (acts.Recorded a reply) h = absurd (false≢true h)
+told_act (acts.Drained a reply) h = absurd (false≢true h)
 told_act (acts.Sent k) h = absurd (false≢true h)
 told_act (acts.Wrote a reply) h = absurd (false≢true h)
 told_act (acts.Told committed) h = (ap (λ (b : Bool). acts.Told b) h, refl)
@@ -446,6 +481,7 @@ refused_act a at (acts.Took reply) h = absurd (false≢true h)
 refused_act a at (acts.Read reply) h = absurd (false≢true h)
 refused_act a at (acts.Intended b reply) h = absurd (false≢true h)
 refused_act a at (acts.Recorded b reply) h = absurd (false≢true h)
+refused_act a at (acts.Drained b reply) h = absurd (false≢true h)
 refused_act a at (acts.Sent k) h = absurd (false≢true h)
 refused_act a at (acts.Wrote b (Ok g)) h = absurd (false≢true h)
 refused_act a at (acts.Wrote b (Err stand)) h = (

@@ -137,6 +137,7 @@ patience_is (commands.Planned shard new_primary avoid expected (Some ms) allow_c
 patience_is (commands.Emergency shard new_primary ignored expected None prevent_cross_cell) = refl
 patience_is (commands.Emergency shard new_primary ignored expected (Some ms) prevent_cross_cell) = refl
 patience_is (commands.External a) = refl
+patience_is commands.Vtorc = refl
 patience_is (commands.Write to) = refl
 patience_is (commands.Show a) = refl
 patience_is (commands.GetShard shard) = refl

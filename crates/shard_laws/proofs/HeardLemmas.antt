@@ -111,6 +111,7 @@ asked_in w (acts.Took reply) x h = absurd (let none : None ≡ Some x = h in cc)
 asked_in w (acts.Read reply) x h = absurd (let none : None ≡ Some x = h in cc)
 asked_in w (acts.Intended a reply) x h = absurd (let none : None ≡ Some x = h in cc)
 asked_in w (acts.Recorded a reply) x h = absurd (let none : None ≡ Some x = h in cc)
+asked_in w (acts.Drained a reply) x h = absurd (let none : None ≡ Some x = h in cc)
 asked_in w (acts.Sent k) x h =
     let found = bind_some (numbered w.post k) (λ m. sending_by w.post m m.content) x h in asked_by w k found.0 found.0.content x found.1 refl found.2
 asked_in w (acts.Wrote a reply) x h = absurd (let none : None ≡ Some x = h in cc)

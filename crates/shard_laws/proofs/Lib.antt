@@ -18,6 +18,10 @@ pub mod LinkLemmas
 pub mod CommandLemmas
 pub mod NumberLemmas
 pub mod ReadLemmas
+pub mod RepairLemmas
+pub mod MarkedLemmas
 pub mod EndLemmas
 pub mod RowLemmas
+pub mod StatusLemmas
+pub mod DidLemmas
 pub mod ShownLemmas

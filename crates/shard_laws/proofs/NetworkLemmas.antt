@@ -29,7 +29,7 @@ use Rattle.shard_calls.specs.Stands.{is_down}
 use Rattle.shard_calls.specs.Tablets.{TabletState, accepts}
 use Rattle.shard_calls.specs.World.{Config, World, opening, on_message, arrives, vanishes, settles, numbered, changed_at, open_command, term_of}
 use Rattle.shard_calls.specs.Messages.{side_eq, link_eq, is_cut, link_of, passes, is_ready, is_received, may_arrive, why_given_up, offer_to}
-use Rattle.shard_calls.specs.Locks.{reads, intends_in, records_in, releases_in}
+use Rattle.shard_calls.specs.Locks.{reads, intends_in, records_in, drains_in, releases_in}
 use Rattle.shard_calls.specs.Deliveries.{after_delivery, after_arrival, asked, fed, if_declared, gives_up, offers}
 use Rattle.shard_calls.specs.Writes.{told_act, tell_of}
 use Rattle.shard_calls.specs.Table.{after, IsRun}
@@ -187,6 +187,7 @@ kept config w (events.Take c) = kept_same _ w.post _ (post_take w c (open_comman
 kept config w (events.Read c) = kept_same _ w.post _ (post_by w (reads w c) (term_of w c) (λ t. refl))
 kept config w (events.Intend c a) = kept_same _ w.post _ (post_by w (intends_in w c a) (term_of w c) (λ t. refl))
 kept config w (events.Record c a) = kept_same _ w.post _ (post_by w (records_in w c a) (term_of w c) (λ t. refl))
+kept config w (events.Drain c a) = kept_same _ w.post _ (post_by w (drains_in w c a) (term_of w c) (λ t. refl))
 kept config w (events.Release c) = kept_same _ w.post _ (post_by w (releases_in w c) (term_of w c) (λ t. refl))
 kept config w events.Lapse = kept_same _ w.post _ refl
 kept config w (events.Send c a call) = kept_push _ w.post _

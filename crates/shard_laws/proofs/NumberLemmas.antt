@@ -28,7 +28,7 @@ use Rattle.shard_calls.specs.Tablets.{TabletState}
 use Rattle.shard_calls.specs.World.{Config, World, opening, idle_actor, main_name, changed, place_of, numbered, on_message, arrives, open_command, term_of}
 use Rattle.shard_calls.specs.Messages.{why_given_up, offer_to}
 use Rattle.shard_calls.specs.Begins.{writes_by, writes_at_place, client_at, client_of, joined_at, with_actor, opens, number_of, begun_state, closes, ends_by}
-use Rattle.shard_calls.specs.Locks.{takes_by, by_term, reads, intends_in, records_in, releases_in}
+use Rattle.shard_calls.specs.Locks.{takes_by, by_term, reads, intends_in, records_in, drains_in, releases_in}
 use Rattle.shard_calls.specs.Deliveries.{if_declared, asked, fed, feed_verdict, after_arrival, after_delivery, gives_up, offers}
 use Rattle.shard_calls.specs.Writes.{writes_in, writes_at, told_act, with_told, tell_of}
 use Rattle.shard_calls.specs.Table.{after, world_after, IsStep, IsRun}
@@ -178,6 +178,7 @@ begin_counts w name command other =
     of_command (commands.Planned shard new_primary avoid expected timeout allow_cross_cell) = no_more (bytes_eq name other)
     of_command (commands.Emergency shard new_primary ignored expected timeout prevent_cross_cell) = no_more (bytes_eq name other)
     of_command (commands.External a) = no_more (bytes_eq name other)
+    of_command commands.Vtorc = no_more (bytes_eq name other)
     of_command (commands.Write to) = refl
     of_command (commands.Show a) = no_more (bytes_eq name other)
     of_command (commands.GetShard shard) = no_more (bytes_eq name other)
@@ -244,6 +245,7 @@ counts config w (events.Take c) name = same w _ name (take_same w c (open_comman
 counts config w (events.Read c) name = same w _ name (by_same w (reads w c) (term_of w c) (λ t. refl))
 counts config w (events.Intend c a) name = same w _ name (by_same w (intends_in w c a) (term_of w c) (λ t. refl))
 counts config w (events.Record c a) name = same w _ name (by_same w (records_in w c a) (term_of w c) (λ t. refl))
+counts config w (events.Drain c a) name = same w _ name (by_same w (drains_in w c a) (term_of w c) (λ t. refl))
 counts config w (events.Release c) name = same w _ name (by_same w (releases_in w c) (term_of w c) (λ t. refl))
 counts config w events.Lapse name = same w _ name refl
 counts config w (events.Send c a call) name = same w _ name refl

@@ -43,6 +43,7 @@ reads_so test (acts.Read (Ok seen)) = test seen
 reads_so test (acts.Read (Err t)) = false
 reads_so test (acts.Intended a reply) = false
 reads_so test (acts.Recorded a reply) = false
+reads_so test (acts.Drained a reply) = false
 reads_so test (acts.Sent k) = false
 reads_so test (acts.Wrote a reply) = false
 reads_so test (acts.Told committed) = false
@@ -54,9 +55,26 @@ records_so a (acts.Read reply) = false
 records_so a (acts.Intended b reply) = false
 records_so a (acts.Recorded b (Ok x)) = alias_eq b a
 records_so a (acts.Recorded b (Err t)) = false
+records_so a (acts.Drained b reply) = false
 records_so a (acts.Sent k) = false
 records_so a (acts.Wrote b reply) = false
 records_so a (acts.Told committed) = false
+
+-- the deed marked the tablet as drained, and so did the act
+abbrev pub drains_it : Alias → Deed → Bool
+drains_it a (deeds.Drained b (Ok x)) = alias_eq b a
+drains_it a _ = false
+
+abbrev pub drains_so : Alias → Act → Bool
+drains_so a (acts.Took reply) = false
+drains_so a (acts.Read reply) = false
+drains_so a (acts.Intended b reply) = false
+drains_so a (acts.Recorded b reply) = false
+drains_so a (acts.Drained b (Ok x)) = alias_eq b a
+drains_so a (acts.Drained b (Err t)) = false
+drains_so a (acts.Sent k) = false
+drains_so a (acts.Wrote b reply) = false
+drains_so a (acts.Told committed) = false
 
 abbrev deed_passes : (Deed → Bool) → Option Deed → Bool
 deed_passes p None = false
@@ -96,6 +114,7 @@ read_among post s test h = any_act (read_passes test) (reads_so test) (deed_of p
     each (acts.Read (Err t)) k = absurd (false≢true k)
     each (acts.Intended a reply) k = absurd (false≢true k)
     each (acts.Recorded a reply) k = absurd (false≢true k)
+    each (acts.Drained a reply) k = absurd (false≢true k)
     each (acts.Sent n) k = sym (no_call (read_passes test) (numbered post n >>= (λ m. asked_by post n m m.content)) (λ x. refl)) ∙ k
     each (acts.Wrote a reply) k = absurd (false≢true k)
     each (acts.Told committed) k = absurd (false≢true k)
@@ -109,7 +128,22 @@ recorded_among post s a h = any_act (records_it a) (records_so a) (deed_of post 
     each (acts.Intended b reply) k = absurd (false≢true k)
     each (acts.Recorded b (Ok x)) k = k
     each (acts.Recorded b (Err t)) k = absurd (false≢true k)
+    each (acts.Drained b reply) k = absurd (false≢true k)
     each (acts.Sent n) k = sym (no_call (records_it a) (numbered post n >>= (λ m. asked_by post n m m.content)) (λ x. refl)) ∙ k
+    each (acts.Wrote b reply) k = absurd (false≢true k)
+    each (acts.Told committed) k = absurd (false≢true k)
+
+pub drained_among : (post : List Message) (s : CommandState) (a : Alias) → list_any (drains_it a) (span_in post s) ≡ true → list_any (drains_so a) s.acts ≡ true
+drained_among post s a h = any_act (drains_it a) (drains_so a) (deed_of post (term_wrote s.wrote)) s.acts each h
+  where
+    each : (act : Act) → deed_passes (drains_it a) (deed_of post (term_wrote s.wrote) act) ≡ true → drains_so a act ≡ true
+    each (acts.Took reply) k = absurd (false≢true k)
+    each (acts.Read reply) k = absurd (false≢true k)
+    each (acts.Intended b reply) k = absurd (false≢true k)
+    each (acts.Recorded b reply) k = absurd (false≢true k)
+    each (acts.Drained b (Ok x)) k = k
+    each (acts.Drained b (Err t)) k = absurd (false≢true k)
+    each (acts.Sent n) k = sym (no_call (drains_it a) (numbered post n >>= (λ m. asked_by post n m m.content)) (λ x. refl)) ∙ k
     each (acts.Wrote b reply) k = absurd (false≢true k)
     each (acts.Told committed) k = absurd (false≢true k)
 
@@ -119,6 +153,7 @@ read_act test (acts.Read (Ok seen)) h = (seen, refl, refl, h)
 read_act test (acts.Read (Err t)) h = absurd (false≢true h)
 read_act test (acts.Intended a reply) h = absurd (false≢true h)
 read_act test (acts.Recorded a reply) h = absurd (false≢true h)
+read_act test (acts.Drained a reply) h = absurd (false≢true h)
 read_act test (acts.Sent k) h = absurd (false≢true h)
 read_act test (acts.Wrote a reply) h = absurd (false≢true h)
 read_act test (acts.Told committed) h = absurd (false≢true h)
@@ -129,9 +164,21 @@ recorded_act a (acts.Read reply) h = absurd (false≢true h)
 recorded_act a (acts.Intended b reply) h = absurd (false≢true h)
 recorded_act a (acts.Recorded b (Ok x)) h = (ap (λ (y : Alias). acts.Recorded y (Ok tt)) (alias_eq_is b a h), refl)
 recorded_act a (acts.Recorded b (Err t)) h = absurd (false≢true h)
+recorded_act a (acts.Drained b reply) h = absurd (false≢true h)
 recorded_act a (acts.Sent k) h = absurd (false≢true h)
 recorded_act a (acts.Wrote b reply) h = absurd (false≢true h)
 recorded_act a (acts.Told committed) h = absurd (false≢true h)
+
+pub drained_act : (a : Alias) (act : Act) → drains_so a act ≡ true → (act ≡ acts.Drained a (Ok tt)) × (is_shown act ≡ true)
+drained_act a (acts.Took reply) h = absurd (false≢true h)
+drained_act a (acts.Read reply) h = absurd (false≢true h)
+drained_act a (acts.Intended b reply) h = absurd (false≢true h)
+drained_act a (acts.Recorded b reply) h = absurd (false≢true h)
+drained_act a (acts.Drained b (Ok x)) h = (ap (λ (y : Alias). acts.Drained y (Ok tt)) (alias_eq_is b a h), refl)
+drained_act a (acts.Drained b (Err t)) h = absurd (false≢true h)
+drained_act a (acts.Sent k) h = absurd (false≢true h)
+drained_act a (acts.Wrote b reply) h = absurd (false≢true h)
+drained_act a (acts.Told committed) h = absurd (false≢true h)
 
 -- ---- intents
 
@@ -178,6 +225,7 @@ of_deed a o t (deeds.Took reply) h = absurd (false≢true h)
 of_deed a o t (deeds.Read reply) h = absurd (false≢true h)
 of_deed a o t (deeds.Intended b reply) h = absurd (false≢true h)
 of_deed a o t (deeds.Recorded b reply) h = absurd (false≢true h)
+of_deed a o t (deeds.Drained b reply) h = absurd (false≢true h)
 of_deed a o t (deeds.Wrote b reply) h = absurd (false≢true h)
 of_deed a o t (deeds.Told committed) h = absurd (false≢true h)
 
@@ -196,6 +244,7 @@ nothing_cause config w s (commands.Emergency shard given ignored expected timeou
 nothing_cause config w s (commands.External b) a h = absurd (false≢true h)
 nothing_cause config w s (commands.Write to) a h = absurd (false≢true h)
 nothing_cause config w s (commands.Show b) a h = absurd (false≢true h)
+nothing_cause config w s commands.Vtorc a h = absurd (false≢true h)
 nothing_cause config w s (commands.GetShard shard) a h = absurd (false≢true h)
 nothing_cause config w s (commands.GetTablets shard) a h = absurd (false≢true h)
 
@@ -209,5 +258,6 @@ recorded_cause config w s (commands.Planned shard given avoid expected timeout c
 recorded_cause config w s (commands.Emergency shard given ignored expected timeout preventing) t h = absurd (false≢true h)
 recorded_cause config w s (commands.Write to) t h = absurd (false≢true h)
 recorded_cause config w s (commands.Show b) t h = absurd (false≢true h)
+recorded_cause config w s commands.Vtorc t h = absurd (false≢true h)
 recorded_cause config w s (commands.GetShard shard) t h = absurd (false≢true h)
 recorded_cause config w s (commands.GetTablets shard) t h = absurd (false≢true h)

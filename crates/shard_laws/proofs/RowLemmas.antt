@@ -59,20 +59,20 @@ use Rattle.shard_laws.proofs.CommandLemmas.{NextIs, AtEnd, BySteps, next_is}
 -- ---- a tablet answers by a step
 
 -- before step i the call came to the tablet, which answered so
-record AnsweredAt (config : Config) (ss : List Step) (i k : ℕ) (a : Alias) (said : Answer) : Type 0 where
-  place : ℕ
-  earlier : place < i
-  reply : ℕ
-  here : slice_get ss place ≡ Some (record { event = events.Deliver k; reply = replies.Message reply })
-  message : Message
-  command : ℕ
-  term : ℕ
-  call : Call
-  me : Tablet
-  at : numbered (world_at config ss place).post k ≡ Some message
-  carries : message.content ≡ contents.Asks command term a call
-  found : tablet_of config.tablets a ≡ Some me
-  answered : answer_to (world_at config ss place).group me term call ((world_at config ss place).tablets a) ≡ said
+pub record AnsweredAt (config : Config) (ss : List Step) (i k : ℕ) (a : Alias) (said : Answer) : Type 0 where
+  pub place : ℕ
+  pub earlier : place < i
+  pub reply : ℕ
+  pub here : slice_get ss place ≡ Some (record { event = events.Deliver k; reply = replies.Message reply })
+  pub message : Message
+  pub command : ℕ
+  pub term : ℕ
+  pub call : Call
+  pub me : Tablet
+  pub at : numbered (world_at config ss place).post k ≡ Some message
+  pub carries : message.content ≡ contents.Asks command term a call
+  pub found : tablet_of config.tablets a ≡ Some me
+  pub answered : answer_to (world_at config ss place).group me term call ((world_at config ss place).tablets a) ≡ said
 
 -- this event delivers the call, and the tablet answers so
 record Replying (config : Config) (w : World) (e : Event) (k : ℕ) (a : Alias) (said : Answer) : Type 0 where
@@ -156,7 +156,7 @@ later_answer config ss i k a said h = record {
   answered = h.answered;
 }
 
-answers_sent : (config : Config) (ss : List Step) (i n d k : ℕ) (a : Alias) (said : Answer) → IsRun config ss
+pub answers_sent : (config : Config) (ss : List Step) (i n d k : ℕ) (a : Alias) (said : Answer) → IsRun config ss
     → IsPosted (world_at config ss i).post n (contents.Answers d k a said) → AnsweredAt config ss i k a said
 answers_sent config ss zero n d k a said run posted = absurd (nothing n posted.at)
   where
@@ -180,7 +180,7 @@ answers_sent config ss (suc i) n d k a said run posted = of_next (world_at confi
         of_cases e q.message here step q.carries (post_cases config (world_at config ss i) e.event n q.message q.at) rest
 
 -- what is posted is posted later
-posted_later : (config : Config) (ss : List Step) (n : ℕ) (content : Content) (i j : ℕ) → IsRun config ss → i ≤ j → IsPosted (world_at config ss i).post n content
+pub posted_later : (config : Config) (ss : List Step) (n : ℕ) (content : Content) (i j : ℕ) → IsRun config ss → i ≤ j → IsPosted (world_at config ss i).post n content
     → IsPosted (world_at config ss j).post n content
 posted_later config ss n content i j run le =
     climb (world_at config ss) (λ w v. IsPosted w.post n content → IsPosted v.post n content) (λ w h. h) (λ k w rest h. next k (rest h)) i j le
@@ -293,7 +293,7 @@ row_at g me s t told = of_place (position (is_row_of t) s.log) refl told
         let e = there_is s.log n less in of_row n e.0 is e.1
 
 -- what a call asked, it always asked
-same_call : (c u d t : ℕ) (a : Alias) (x y : Call) → contents.Asks c u a x ≡ contents.Asks d t a y → (u ≡ t) × (x ≡ y)
+pub same_call : (c u d t : ℕ) (a : Alias) (x y : Call) → contents.Asks c u a x ≡ contents.Asks d t a y → (u ≡ t) × (x ≡ y)
 same_call c u d t a x y h = (cc, cc)
 
 carries_so : (m : Message) (c u t : ℕ) (a : Alias) (f : Call) (until : ℕ) → m.content ≡ contents.Asks c u a f → u ≡ t → f ≡ calls.WaitTold until

@@ -7,6 +7,7 @@ use Rattle.shard_calls.proofs.AcceptLemmas.{told_is_accepted, not_told_is_late}
 use Rattle.shard_laws.proofs.LeaderLemmas.{leader_complete}
 use Rattle.shard_laws.proofs.GroundedLemmas.{promotes_on_grounds}
 use Rattle.shard_laws.proofs.NetworkLemmas.{nothing_crosses_a_cut, who_is_down_hears_nothing}
+use Rattle.shard_laws.proofs.MarkedLemmas.{marks_stay}
 use Rattle.shard_laws.proofs.ShownLemmas.{shown_by_steps}
 
 pub every_run_is_safe : OfEveryShard IsSafe
@@ -31,4 +32,5 @@ every_run_is_safe config ss is run = record {
   acts = acts_are_steps config ss run;
   outcomes = outcomes_are_steps config ss run;
   shown = shown_by_steps config ss run;
+  marks_stay = marks_stay config ss run;
 }

@@ -1,8 +1,8 @@
 -- That answers are shown by the steps before them.
-use Rattle.std.proofs.Common.{◌≡◌, ◌⊎◌, inl, inr, ◌≤◌, ◌<◌, ℕ, zero, suc, Bool, true, false, not, ◌&&◌, ◌==◌, refl, ap, sym, subst, ◌∙◌, arith, cond, List, [], ◌∷◌, take, Option, Some, None, Ok, Err, is_some, map}
+use Rattle.std.proofs.Common.{◌≡◌, ◌⊎◌, inl, inr, ◌≤◌, ◌<◌, ℕ, zero, suc, true, false, not, ◌&&◌, ◌==◌, refl, ap, sym, subst, ◌∙◌, arith, List, [], ◌∷◌, Option, Some, None, is_some, map}
 use Rattle.std.proofs.lemmas.Bool.{false≢true}
 use Rattle.std.proofs.lemmas.Bool.Decides.{nat_tests}
-use Rattle.std.specs.List.{slice_get, list_any}
+use Rattle.std.specs.List.{slice_get, list_any, AllByRecursion}
 use Rattle.shard_base.specs.Options.{◌>>=◌}
 use Rattle.shard_names.specs.declared.alias.Alias.{Alias}
 use Rattle.shard_names.specs.Tablets.{alias_eq}
@@ -16,58 +16,54 @@ use Rattle.gtid_sets.specs.Position.{Position, covers}
 use Rattle.gtid_sets.specs.Logs.{position_of}
 use Rattle.gtid_sets.proofs.GtidLemmas.{gtid_eq_is}
 use Rattle.gtid_sets.proofs.PositionLemmas.{covers-both}
+use Rattle.shard_calls.specs.declared.analysis.Finding.{Finding}
+use Rattle.shard_calls.specs.declared.analysis.Status.{Status}
 use Rattle.shard_calls.specs.declared.command.Command.{Command}
 use Rattle.shard_calls.specs.declared.command.Command.TheVariants as commands
 use Rattle.shard_calls.specs.declared.ending.CommandAnswer.{CommandAnswer}
 use Rattle.shard_calls.specs.declared.ending.CommandAnswer.TheVariants as ends
 use Rattle.shard_calls.specs.declared.ending.NotJoined.{NotJoined}
+use Rattle.shard_calls.specs.declared.ending.Rest.{Rest}
+use Rattle.shard_calls.specs.declared.ending.Rest.TheVariants as lines
 use Rattle.shard_calls.specs.declared.event.Event.{Event}
 use Rattle.shard_calls.specs.declared.event.Event.TheVariants as events
 use Rattle.shard_calls.specs.declared.event.Reply.{Reply}
 use Rattle.shard_calls.specs.declared.event.Reply.TheVariants as replies
-use Rattle.shard_calls.specs.declared.event.Seen.{Seen}
 use Rattle.shard_calls.specs.declared.event.Step.{Step}
 use Rattle.shard_calls.specs.declared.span.Deed.{Deed}
 use Rattle.shard_calls.specs.declared.span.Kind.TheVariants as kinds
 use Rattle.shard_calls.specs.Spans.{span_in}
 use Rattle.shard_calls.specs.declared.stand.Standing.{Standing}
-use Rattle.shard_calls.specs.declared.state.Act.{Act}
-use Rattle.shard_calls.specs.declared.state.Act.TheVariants as acts
 use Rattle.shard_calls.specs.declared.state.CommandState.{CommandState}
 use Rattle.shard_calls.specs.declared.state.Opening.{Opening}
 use Rattle.shard_calls.specs.declared.state.Shown.{Shown}
 use Rattle.shard_calls.specs.declared.state.Wrote.{Wrote}
 use Rattle.shard_calls.specs.Stands.{is_primary_of, standing_of}
 use Rattle.shard_calls.specs.Tablets.{TabletState}
-use Rattle.shard_calls.specs.World.{Config, World, opening, numbered, open_command}
-use Rattle.shard_calls.specs.Causes.{wrote_this, is_told_act, says_not_primary, showed, row_of, any_read, any_answer, records_it, is_last_intended, stands_promoted, has_command_cause, has_cause}
-use Rattle.shard_calls.specs.Same.{standing_eq, position_eq}
+use Rattle.shard_calls.specs.World.{Config, World, group_of, opening, numbered, open_command}
+use Rattle.shard_calls.specs.Analysis.{Statuses, analysed, problems}
+use Rattle.shard_calls.specs.Causes.{calls_of, statuses, wrote_this, is_told_act, showed, row_of, any_answer, is_last_intended, stands_promoted, has_command_cause, has_cause}
+use Rattle.shard_calls.specs.Same.{standing_eq, position_eq, findings_eq}
 use Rattle.shard_calls.specs.Begins.{shown_of, shown_by}
 use Rattle.shard_calls.specs.Locks.{seen_of}
 use Rattle.shard_calls.specs.Writes.{tell_reply}
-use Rattle.shard_calls.specs.Table.{after, answer, IsStep, IsRun, IsRunFrom}
-use Rattle.shard_calls.specs.Answered.{act_of, acts_of}
+use Rattle.shard_calls.specs.Table.{after, answer, IsStep, IsRun}
 use Rattle.shard_calls.specs.Promotions.{world_at, IsTold, ToWrite}
 use Rattle.shard_calls.specs.RunLaws.{OfEveryRun}
 use Rattle.shard_calls.proofs.WroteLemmas.{wrote_in, WroteFits}
-use Rattle.shard_calls.proofs.CauseLemmas.{promoted_has_row}
-use Rattle.shard_calls.proofs.ActLemmas.{if_open_is, acts_are_steps}
+use Rattle.shard_calls.proofs.CauseLemmas.{promoted_has_row, watched_has_row}
+use Rattle.shard_calls.proofs.ActLemmas.{if_open_is}
 use Rattle.shard_calls.proofs.RunLemmas.{step_along, next_world, truthful_at}
-use Rattle.shard_laws.specs.Shown.{HadStep, RowWasTold, WriteWasTold, WasRecorded, BeganIn, StandsSo, ShownBy, ShownBySteps}
+use Rattle.shard_laws.specs.Shown.{HadStep, RowWasTold, WriteWasTold, WasRecorded, BeganIn, StandsSo, WasFound, LineShownBy, ShownBy, ShownBySteps}
 use Rattle.shard_laws.proofs.TraceLemmas.{climb}
 use Rattle.shard_laws.proofs.CommandLemmas.{WritesNow, Goes, BegunBy, CameFrom, change_of, forward, backward, NextIs, AtEnd, BySteps, next_is}
 use Rattle.shard_laws.proofs.RowLemmas.{told_among, row_was_told}
-use Rattle.shard_laws.proofs.ReadLemmas.{reads_so, records_so, read_among, recorded_among, read_act, recorded_act, intended_last, promoted_intent, nothing_cause, recorded_cause}
-use Rattle.shard_laws.proofs.EndLemmas.{standing_is, ending, committed_cause, unknown_cause, not_primary_cause, no_primary_cause, shown_cause, shard_cause, tablets_cause, told_cause, is_shown, DoneBy, ByRead, ByRecord, ByTold, ByGone, ByEntry, ByRefusal, done_by, told_act, refused_act, ActStep, act_step, step_act}
+use Rattle.shard_laws.proofs.DidLemmas.{had_told, had_refused, had_read, had_recorded, had_drained, had_status, has_told}
+use Rattle.shard_laws.proofs.ReadLemmas.{intended_last, promoted_intent, nothing_cause, recorded_cause}
+use Rattle.shard_laws.proofs.RepairLemmas.{IsRepair, LinesOf, OfPromotion, OfRefusal, OfRepairs, Watched, watched_cause}
+use Rattle.shard_laws.proofs.EndLemmas.{standing_is, ending, committed_cause, unknown_cause, not_primary_cause, no_primary_cause, shown_cause, shard_cause, tablets_cause, told_cause}
 
 -- ---- what was before
-
--- the steps up to here are a run
-run_front : (config : Config) (w : World) (ss : List Step) (i : ℕ) → IsRunFrom config w ss → IsRunFrom config w (take i ss)
-run_front config w [] zero run = tt
-run_front config w [] (suc i) run = tt
-run_front config w (s ∷ ss) zero run = tt
-run_front config w (s ∷ ss) (suc i) run = (run.0, run_front config (after config w s.event) ss i run.1)
 
 -- how the command began
 record Began (config : Config) (ss : List Step) (i c : ℕ) (s : CommandState) : Type 0 where
@@ -173,106 +169,6 @@ wrote_next config ss c i x run h = of_next (world_at config ss (suc i)) (next_is
 wrote_later : (config : Config) (ss : List Step) (c i j : ℕ) (x : Wrote) → IsRun config ss → i ≤ j → HasWrote c x (world_at config ss i) → HasWrote c x (world_at config ss j)
 wrote_later config ss c i j x run le =
     climb (world_at config ss) (λ w v. HasWrote c x w → HasWrote c x v) (λ w h. h) (λ k w rest h. wrote_next config ss c k x run (rest h)) i j le
-
--- ---- acts are steps
-
--- the acts of the command are those of the steps so far
-acts_so_far : (config : Config) (ss : List Step) (i c : ℕ) (s : CommandState) → IsRun config ss → numbered (world_at config ss i).commands c ≡ Some s → s.acts ≡ acts_of c (take i ss)
-acts_so_far config ss i c s run here = acts_are_steps config (take i ss) (run_front config (opening config) ss i run) c s here
-
-step_is : (s : Step) (e : Event) (r : Reply) → s.event ≡ e → s.reply ≡ r → s ≡ record { event = e; reply = r }
-step_is s e r p q =
-    ap (λ (v : Event). let y : Step = record { event = v; reply = s.reply } in y) p ∙ ap (λ (v : Reply). let y : Step = record { event = e; reply = v } in y) q
-
-by_told : (c : ℕ) (e : Event) (r : Reply) (act : Act) → DoneBy c e r act → act ≡ acts.Told true → (e ≡ events.Tell c) × (r ≡ replies.Told)
-by_told c _ _ _ (ByRead seen) is = absurd (let wrong : acts.Read (Ok seen) ≡ acts.Told true = is in cc)
-by_told c _ _ _ (ByRecord a) is = absurd (let wrong : acts.Recorded a (Ok tt) ≡ acts.Told true = is in cc)
-by_told c _ _ _ ByTold is = (refl, refl)
-by_told c _ _ _ ByGone is = absurd (let wrong : acts.Told false ≡ acts.Told true = is in cc)
-by_told c _ _ _ (ByEntry a g) is = absurd (let wrong : acts.Wrote a (Ok g) ≡ acts.Told true = is in cc)
-by_told c _ _ _ (ByRefusal a at) is = absurd (let wrong : acts.Wrote a (Err at) ≡ acts.Told true = is in cc)
-
-by_refusal : (c : ℕ) (a : Alias) (at : Standing) (e : Event) (r : Reply) (act : Act) → DoneBy c e r act → act ≡ acts.Wrote a (Err at)
-    → (e ≡ events.Write c a) × (r ≡ replies.NotPrimary at)
-by_refusal c a at _ _ _ (ByRead seen) is = absurd (let wrong : acts.Read (Ok seen) ≡ acts.Wrote a (Err at) = is in cc)
-by_refusal c a at _ _ _ (ByRecord b) is = absurd (let wrong : acts.Recorded b (Ok tt) ≡ acts.Wrote a (Err at) = is in cc)
-by_refusal c a at _ _ _ ByTold is = absurd (let wrong : acts.Told true ≡ acts.Wrote a (Err at) = is in cc)
-by_refusal c a at _ _ _ ByGone is = absurd (let wrong : acts.Told false ≡ acts.Wrote a (Err at) = is in cc)
-by_refusal c a at _ _ _ (ByEntry b g) is = absurd (let wrong : acts.Wrote b (Ok g) ≡ acts.Wrote a (Err at) = is in cc)
-by_refusal c a at _ _ _ (ByRefusal b stand) is =
-    let who : b ≡ a = (let same : acts.Wrote b (Err stand) ≡ acts.Wrote a (Err at) = is in cc) in
-    let how : stand ≡ at = (let same : acts.Wrote b (Err stand) ≡ acts.Wrote a (Err at) = is in cc) in
-    (ap (λ (x : Alias). events.Write c x) who, ap (λ (x : Standing). replies.NotPrimary x) how)
-
-by_read : (c : ℕ) (seen : Seen) (e : Event) (r : Reply) (act : Act) → DoneBy c e r act → act ≡ acts.Read (Ok seen) → (e ≡ events.Read c) × (r ≡ replies.Read seen)
-by_read c seen _ _ _ (ByRead other) is =
-    let same : other ≡ seen = (let read : acts.Read (Ok other) ≡ acts.Read (Ok seen) = is in cc) in (refl, ap (λ (x : Seen). replies.Read x) same)
-by_read c seen _ _ _ (ByRecord a) is = absurd (let wrong : acts.Recorded a (Ok tt) ≡ acts.Read (Ok seen) = is in cc)
-by_read c seen _ _ _ ByTold is = absurd (let wrong : acts.Told true ≡ acts.Read (Ok seen) = is in cc)
-by_read c seen _ _ _ ByGone is = absurd (let wrong : acts.Told false ≡ acts.Read (Ok seen) = is in cc)
-by_read c seen _ _ _ (ByEntry a g) is = absurd (let wrong : acts.Wrote a (Ok g) ≡ acts.Read (Ok seen) = is in cc)
-by_read c seen _ _ _ (ByRefusal a at) is = absurd (let wrong : acts.Wrote a (Err at) ≡ acts.Read (Ok seen) = is in cc)
-
-by_record : (c : ℕ) (a : Alias) (e : Event) (r : Reply) (act : Act) → DoneBy c e r act → act ≡ acts.Recorded a (Ok tt) → (e ≡ events.Record c a) × (r ≡ replies.Ok)
-by_record c a _ _ _ (ByRead seen) is = absurd (let wrong : acts.Read (Ok seen) ≡ acts.Recorded a (Ok tt) = is in cc)
-by_record c a _ _ _ (ByRecord b) is =
-    let same : b ≡ a = (let recorded : acts.Recorded b (Ok tt) ≡ acts.Recorded a (Ok tt) = is in cc) in (ap (λ (x : Alias). events.Record c x) same, refl)
-by_record c a _ _ _ ByTold is = absurd (let wrong : acts.Told true ≡ acts.Recorded a (Ok tt) = is in cc)
-by_record c a _ _ _ ByGone is = absurd (let wrong : acts.Told false ≡ acts.Recorded a (Ok tt) = is in cc)
-by_record c a _ _ _ (ByEntry b g) is = absurd (let wrong : acts.Wrote b (Ok g) ≡ acts.Recorded a (Ok tt) = is in cc)
-by_record c a _ _ _ (ByRefusal b at) is = absurd (let wrong : acts.Wrote b (Err at) ≡ acts.Recorded a (Ok tt) = is in cc)
-
--- the step that did an act on which an answer rests
-did_it : (config : Config) (ss : List Step) (i c : ℕ) (p : Act → Bool) → IsRun config ss → (h : ActStep c p ss i) → is_shown h.act ≡ true
-    → DoneBy c h.step.event h.step.reply h.act
-did_it config ss i c p run h of_write =
-    let w : World = world_at config ss h.place in
-    let step : IsStep config w h.step = step_along config (opening config) ss h.place h.step run h.here in
-    subst (λ (r : Reply). DoneBy c h.step.event r h.act) (sym step.answered)
-    (done_by config w c h.step.event h.act (ap (λ (r : Reply). act_of c h.step.event r) (sym step.answered) ∙ h.did) of_write)
-
-had_told : (config : Config) (ss : List Step) (i c : ℕ) (s : CommandState) → IsRun config ss → numbered (world_at config ss i).commands c ≡ Some s
-    → list_any is_told_act s.acts ≡ true → HadStep ss i (events.Tell c) replies.Told
-had_told config ss i c s run here h =
-    let found = act_step c is_told_act ss i (ap (λ (l : List Act). list_any is_told_act l) (sym (acts_so_far config ss i c s run here)) ∙ h) in
-    let told = told_act found.act found.passes in
-    let by = by_told c found.step.event found.step.reply found.act (did_it config ss i c is_told_act run found told.1) told.0 in
-    (found.place, found.earlier, found.here ∙ ap (λ (y : Step). Some y) (step_is found.step (events.Tell c) replies.Told by.0 by.1))
-
-had_refused : (config : Config) (ss : List Step) (i c : ℕ) (s : CommandState) (a : Alias) (at : Standing) → IsRun config ss → numbered (world_at config ss i).commands c ≡ Some s
-    → list_any (says_not_primary a at) s.acts ≡ true → HadStep ss i (events.Write c a) (replies.NotPrimary at)
-had_refused config ss i c s a at run here h =
-    let found = act_step c (says_not_primary a at) ss i (ap (λ (l : List Act). list_any (says_not_primary a at) l) (sym (acts_so_far config ss i c s run here)) ∙ h) in
-    let told = refused_act a at found.act found.passes in
-    let by = by_refusal c a at found.step.event found.step.reply found.act (did_it config ss i c (says_not_primary a at) run found told.1) told.0 in
-    (found.place, found.earlier, found.here ∙ ap (λ (y : Step). Some y) (step_is found.step (events.Write c a) (replies.NotPrimary at) by.0 by.1))
-
-had_read : (config : Config) (ss : List Step) (i c : ℕ) (s : CommandState) (test : Seen → Bool) → IsRun config ss → numbered (world_at config ss i).commands c ≡ Some s
-    → any_read test (span_in (world_at config ss i).post s) ≡ true → (seen : Seen) × HadStep ss i (events.Read c) (replies.Read seen) × (test seen ≡ true)
-had_read config ss i c s test run here h =
-    let did : list_any (reads_so test) s.acts ≡ true = read_among (world_at config ss i).post s test h in
-    let found = act_step c (reads_so test) ss i (ap (λ (l : List Act). list_any (reads_so test) l) (sym (acts_so_far config ss i c s run here)) ∙ did) in
-    let read = read_act test found.act found.passes in
-    let by = by_read c read.0 found.step.event found.step.reply found.act (did_it config ss i c (reads_so test) run found read.2) read.1 in
-    (read.0, (found.place, found.earlier, found.here ∙ ap (λ (y : Step). Some y) (step_is found.step (events.Read c) (replies.Read read.0) by.0 by.1)), read.3)
-
-had_recorded : (config : Config) (ss : List Step) (i c : ℕ) (s : CommandState) (a : Alias) → IsRun config ss → numbered (world_at config ss i).commands c ≡ Some s
-    → list_any (records_it a) (span_in (world_at config ss i).post s) ≡ true → HadStep ss i (events.Record c a) replies.Ok
-had_recorded config ss i c s a run here h =
-    let did : list_any (records_so a) s.acts ≡ true = recorded_among (world_at config ss i).post s a h in
-    let found = act_step c (records_so a) ss i (ap (λ (l : List Act). list_any (records_so a) l) (sym (acts_so_far config ss i c s run here)) ∙ did) in
-    let recorded = recorded_act a found.act found.passes in
-    let by = by_record c a found.step.event found.step.reply found.act (did_it config ss i c (records_so a) run found recorded.1) recorded.0 in
-    (found.place, found.earlier, found.here ∙ ap (λ (y : Step). Some y) (step_is found.step (events.Record c a) replies.Ok by.0 by.1))
-
--- a command that was told has this act
-has_told : (config : Config) (ss : List Step) (i c : ℕ) (s : CommandState) → IsRun config ss → numbered (world_at config ss i).commands c ≡ Some s
-    → HadStep ss i (events.Tell c) replies.Told → list_any is_told_act s.acts ≡ true
-has_told config ss i c s run here h =
-    let own : (c == c) ≡ true = grind (arith, nat_tests) in
-    let did : act_of c (events.Tell c) replies.Told ≡ Some (acts.Told true) = ap (λ (b : Bool). cond b (Some (acts.Told true)) None) own in
-    ap (λ (l : List Act). list_any is_told_act l) (acts_so_far config ss i c s run here)
-    ∙ step_act c is_told_act ss i h.0 (record { event = events.Tell c; reply = replies.Told }) (acts.Told true) h.1 h.2 did refl
 
 -- ---- what a command wrote
 
@@ -424,6 +320,48 @@ was_recorded config ss i c s t run here cause =
       recorded = had_recorded config ss i c s is.0 run here is.2;
     }
 
+-- of a vtorc each line
+repair_shown : (config : Config) (ss : List Step) (i c : ℕ) (s : CommandState) (x : Rest) → IsRun config ss → numbered (world_at config ss i).commands c ≡ Some s
+    → IsRepair (span_in (world_at config ss i).post s) x → LineShownBy config ss i c x
+repair_shown config ss i c s (lines.Promoted a t left) run here h = absurd h
+repair_shown config ss i c s (lines.Refused refusal again) run here h = tt
+repair_shown config ss i c s (lines.Joined a p) run here h = tt
+repair_shown config ss i c s (lines.Left a left) run here h = tt
+repair_shown config ss i c s (lines.Drained a) run here h = had_drained config ss i c s a run here h
+
+repairs_shown : (config : Config) (ss : List Step) (i c : ℕ) (s : CommandState) (rest : List Rest) → IsRun config ss → numbered (world_at config ss i).commands c ≡ Some s
+    → AllByRecursion (IsRepair (span_in (world_at config ss i).post s)) rest → AllByRecursion (LineShownBy config ss i c) rest
+repairs_shown config ss i c s [] run here all = tt
+repairs_shown config ss i c s (x ∷ rest) run here all = (repair_shown config ss i c s x run here all.0, repairs_shown config ss i c s rest run here all.1)
+
+lines_shown : (config : Config) (ss : List Step) (i c : ℕ) (s : CommandState) (findings : List Finding) (rest : List Rest) → IsRun config ss
+    → numbered (world_at config ss i).commands c ≡ Some s
+    → has_cause config (world_at config ss i) (open_command (world_at config ss i) c) (ends.Vtorc findings rest) ≡ true
+    → LinesOf (span_in (world_at config ss i).post s) rest → AllByRecursion (LineShownBy config ss i c) rest
+lines_shown config ss i c s findings _ run here caused (OfPromotion a t left told) =
+    let w : World = world_at config ss i in
+    let truth = truthful_at config ss i run in (
+      row_was_told config ss i a t run (watched_has_row config w (open_command w c) findings a t left truth.sound truth.telling caused).intended
+          (told_among w s a t truth.telling told),
+      tt,
+    )
+lines_shown config ss i c s findings _ run here caused (OfRefusal refusal again) = (tt, tt)
+lines_shown config ss i c s findings _ run here caused (OfRepairs rest all) = repairs_shown config ss i c s rest run here all
+
+was_found : (config : Config) (ss : List Step) (i c : ℕ) (s : CommandState) (findings : List Finding) (rest : List Rest) → IsRun config ss
+    → numbered (world_at config ss i).commands c ≡ Some s → s.command ≡ commands.Vtorc
+    → Watched (group_of config) s (span_in (world_at config ss i).post s) findings rest → WasFound config ss i c findings
+was_found config ss i c s findings rest run here is watched =
+    let said : Statuses = statuses (calls_of kinds.Status (span_in (world_at config ss i).post s)) in
+    let began = (began_before config ss i c s run here).0 in
+    record {
+      said = said;
+      asked = λ a status h. had_status config ss i c s a status run here h;
+      began = began_in config ss i c s commands.Vtorc
+          (λ w. findings_eq findings (problems (analysed (group_of config) w.topo.recorded w.topo.drained said)) ≡ true) began is
+          (ap (λ (o : Opening). findings_eq findings (problems (analysed (group_of config) o.seen.recorded o.seen.drained said))) (sym began.opened) ∙ watched.found);
+    }
+
 shown_answer : (config : Config) (ss : List Step) (i c : ℕ) (x : CommandAnswer) → IsRun config ss
     → has_cause config (world_at config ss i) (open_command (world_at config ss i) c) x ≡ true → (s : CommandState) → numbered (world_at config ss i).commands c ≡ Some s
     → has_command_cause config (world_at config ss i) s s.command x ≡ true → ShownBy config ss i c x
@@ -434,6 +372,9 @@ shown_answer config ss i c (ends.NothingToDo a) run caused s here cause =
     (intent.0, (read.0, read.1, intent.1), intent.2)
 shown_answer config ss i c (ends.Recorded t) run caused s here cause = was_recorded config ss i c s t run here cause
 shown_answer config ss i c (ends.Refused refusal tried) run caused s here cause = tt
+shown_answer config ss i c (ends.Vtorc findings rest) run caused s here cause =
+    let is = watched_cause config (world_at config ss i) s s.command findings rest cause in
+    (was_found config ss i c s findings rest run here is.0 is.1, lines_shown config ss i c s findings rest run here caused is.1.lines)
 shown_answer config ss i c (ends.Committed g a t) run caused s here cause =
     let is = committed_cause config (world_at config ss i) s s.command g a t cause in
     write_was_told config ss i c s g a t run here (wrote_so s.wrote g a t (both_left (wrote_this s.wrote g a t) (list_any is_told_act s.acts) is))

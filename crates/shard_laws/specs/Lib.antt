@@ -3,6 +3,7 @@ pub mod Traces
 pub mod OneTablet
 pub mod Network
 pub mod Shown
+pub mod Marks
 pub mod Grounded
 pub mod Safe
 pub mod Examples

@@ -116,6 +116,7 @@ patience (commands.Planned shard new_primary avoid expected (Some ms) allow_cros
 patience (commands.Emergency shard new_primary ignored expected None prevent_cross_cell) = 15000
 patience (commands.Emergency shard new_primary ignored expected (Some ms) prevent_cross_cell) = ms
 patience (commands.External a) = 15000
+patience commands.Vtorc = 15000
 patience (commands.Write to) = 15000
 patience (commands.Show a) = 15000
 patience (commands.GetShard shard) = 15000

@@ -9,6 +9,7 @@ use Rattle.shard_calls.specs.RunLaws.{LogsOnlyGrow, OneEntry, LogsAreClosed, Ack
 use Rattle.shard_calls.specs.Answered.{AnswersHaveCauses, ActsAreSteps, OutcomesAreSteps}
 use Rattle.shard_laws.specs.Network.{NothingCrossesACut, WhoIsDownHearsNothing}
 use Rattle.shard_laws.specs.Grounded.{PromotesOnGrounds}
+use Rattle.shard_laws.specs.Marks.{MarksStay}
 use Rattle.shard_laws.specs.Shown.{ShownBySteps}
 
 -- It is a run of the shard machine, over tablets of one shard.
@@ -19,8 +20,9 @@ use Rattle.shard_laws.specs.Shown.{ShownBySteps}
 -- is said only once the moment has come until which the call waits; what a tablet acknowledged, and what a primary noted of it, is in its log.
 -- Messages: none crosses a link that is cut, and none comes to a tablet that is down; what does not come waits.
 -- Answers: each has its cause in what the command did and in what its calls came to, and the steps show both. A promotion that is answered, and a write that
--- is answered as committed, was told by a step; what was written, refused, recorded or seen is what a Write, a Record, a Read or a Begin
--- shows.
+-- is answered as committed, was told by a step; what was written, refused, recorded, drained or seen is what a Write, a Record, a Drain, a Read or a
+-- Begin shows; and what was found amiss is so by how tablets stood when they were asked.
+-- Marks: a Drain under the lock marks its tablet as drained, for good.
 pub record IsSafe (config : Config) (history : List Step) : Type 0 where
   pub tablets : AreTablets config.tablets
   pub run : IsRun config history
@@ -42,3 +44,4 @@ pub record IsSafe (config : Config) (history : List Step) : Type 0 where
   pub acts : ActsAreSteps config history
   pub outcomes : OutcomesAreSteps config history
   pub shown : ShownBySteps config history
+  pub marks_stay : MarksStay config history

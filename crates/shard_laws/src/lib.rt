@@ -9,7 +9,7 @@ pub use laws::{
     rows_are_moves, sites_are_shown, told_is_voted, votes_answered, worked_grounds,
 };
 pub use network::{
-    answers_are_shown, cuts_are_as_said, give_up_names_the_first, lapsed_is_free, no_acks_after,
-    nothing_crosses_a_cut, nothing_lost_comes, promotion_covers, set_source_again,
+    answers_are_shown, cuts_are_as_said, give_up_names_the_first, lapsed_is_free, marks_stay,
+    no_acks_after, nothing_crosses_a_cut, nothing_lost_comes, promotion_covers, set_source_again,
     who_is_down_hears_nothing, write_numbers_have_no_gaps,
 };

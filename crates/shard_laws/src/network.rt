@@ -1,6 +1,7 @@
 //! What holds of tablets, messages and commands, in the network's own words. The functions do nothing: each one's contract is a law.
 
 ghost use Rattle.shard_calls.specs.RunLaws.{OfEveryRun};
+ghost use Rattle.shard_laws.specs.Marks.{MarksStay};
 ghost use Rattle.shard_laws.specs.Network.{CutsAreAsSaid, GiveUpNamesTheFirst, NothingCrossesACut, NothingLostComes, WhoIsDownHearsNothing, WriteNumbersHaveNoGaps};
 ghost use Rattle.shard_laws.specs.OneTablet.{LapsedIsFree, NoAcksAfter, PromotionCovers, SetSourceAgain};
 ghost use Rattle.shard_laws.specs.Shown.{ShownBySteps};
@@ -58,4 +59,9 @@ pub fn write_numbers_have_no_gaps()
 /// Each answer of a command is shown by the steps before it.
 pub fn answers_are_shown()
     ensures { OfEveryRun ShownBySteps }
+{}
+
+/// A Drain under the lock marks its tablet as drained, for good.
+pub fn marks_stay()
+    ensures { OfEveryRun MarksStay }
 {}

@@ -31,6 +31,8 @@ pub record Data : Type 0 where
   pub policy : Durability
   pub moment : ℕ
   pub topo : Topology
+  -- for how many marks of drained tablets there is room
+  pub marks : ℕ
   -- the aliases that the post knows
   pub aliases : List Alias
   pub messages : List Message
@@ -45,6 +47,7 @@ data_of f = record {
   policy = f.policy;
   moment = f.moment;
   topo = f.topo.topology;
+  marks = f.topo.marks;
   aliases = f.post.aliases;
   messages = f.post.messages;
   clock = f.clock;

@@ -128,7 +128,7 @@ pub(crate) fn copy_taken(reply: &Result<u64, LockTaken>) -> Result<u64, LockTake
     }
 }
 
-/// The same reply to an Intend or a Record once more.
+/// The same reply to an Intend, a Record or a Drain once more.
 pub(crate) fn copy_set(reply: &Result<(), u64>) -> Result<(), u64>
     ensures { result ≡ reply.now }
 {

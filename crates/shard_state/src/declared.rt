@@ -41,6 +41,7 @@ pub fn names_declared(fields: &Fields, command: &Command) -> bool
         Command::Planned { .. } => true,
         Command::Emergency { .. } => true,
         Command::External { .. } => true,
+        Command::Vtorc => true,
         Command::Write { to } => match to {
             Some(alias) => is_declared(&fields.managers, alias),
             None => true,

@@ -85,6 +85,10 @@ fn deed_of(post: &Post, term: u64, act: &Act) -> Result<Option<Deed>, OutOfMemor
             alias: *alias,
             reply: copy_set(reply),
         })),
+        Act::Drained { alias, reply } => Ok(Some(Deed::Drained {
+            alias: *alias,
+            reply: copy_set(reply),
+        })),
         Act::Sent { message } => sent(post, *message),
         Act::Wrote { alias, reply } => Ok(Some(Deed::Wrote {
             alias: *alias,

@@ -36,6 +36,7 @@ pub fn timeout_of(command: &Command) -> u64
         Command::Planned { timeout, .. } => timeout.unwrap_or(TIMEOUT),
         Command::Emergency { timeout, .. } => timeout.unwrap_or(TIMEOUT),
         Command::External { .. } => TIMEOUT,
+        Command::Vtorc => TIMEOUT,
         Command::Write { .. } => TIMEOUT,
         Command::Show { .. } => TIMEOUT,
         Command::GetShard { .. } => TIMEOUT,

@@ -14,6 +14,7 @@ fn is_write(command: &Command) -> bool
         Command::Planned { .. } => false,
         Command::Emergency { .. } => false,
         Command::External { .. } => false,
+        Command::Vtorc => false,
         Command::Write { .. } => true,
         Command::Show { .. } => false,
         Command::GetShard { .. } => false,

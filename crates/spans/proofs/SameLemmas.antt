@@ -3,11 +3,13 @@ use Rattle.std.proofs.Common.{◌≡◌, ◌∙◌, refl, sym, ap, ℕ, zero, su
 use Rattle.std.proofs.lemmas.Bool.{false≢true}
 use Rattle.std.proofs.lemmas.Bool.Decides.{Decides-eqb}
 use Rattle.std.specs.List.{list_all, zip}
+use Rattle.shard_calls.specs.declared.analysis.Finding.{Finding}
 use Rattle.shard_calls.specs.declared.ending.NotJoined.{NotJoined}
+use Rattle.shard_calls.specs.declared.ending.Rest.{Rest}
 use Rattle.shard_calls.specs.declared.refusal.NotStopped.{NotStopped}
 use Rattle.shard_calls.specs.declared.refusal.Rejected.{Rejected}
-use Rattle.shard_calls.specs.Same.{rejected_eq, not_stopped_eq, not_joined_eq}
-use Rattle.spans.specs.Lists.{are_same, same_rejected, same_not_stopped, same_not_joined}
+use Rattle.shard_calls.specs.Same.{rejected_eq, not_stopped_eq, not_joined_eq, findings_eq, line_eq, lines_eq}
+use Rattle.spans.specs.Lists.{are_same, same_rejected, same_not_stopped, same_not_joined, same_finding}
 
 none_and : (b : Bool) → (b && false) ≡ false
 none_and true = refl
@@ -56,6 +58,18 @@ not_joined_by [] (y ∷ ys) = refl
 not_joined_by (x ∷ xs) [] = refl
 not_joined_by (x ∷ xs) (y ∷ ys) = ap (λ (b : Bool). same_not_joined x y && b) (not_joined_by xs ys)
 
+findings_by : (xs ys : List Finding) → are_same same_finding xs ys ≡ findings_eq xs ys
+findings_by [] [] = refl
+findings_by [] (y ∷ ys) = refl
+findings_by (x ∷ xs) [] = refl
+findings_by (x ∷ xs) (y ∷ ys) = ap (λ (b : Bool). same_finding x y && b) (findings_by xs ys)
+
+lines_by : (xs ys : List Rest) → are_same line_eq xs ys ≡ lines_eq xs ys
+lines_by [] [] = refl
+lines_by [] (y ∷ ys) = refl
+lines_by (x ∷ xs) [] = refl
+lines_by (x ∷ xs) (y ∷ ys) = ap (λ (b : Bool). line_eq x y && b) (lines_by xs ys)
+
 pub rejected_pairs : (xs ys : List Rejected) → length xs ≡ length ys → list_all (λ p. same_rejected p.0 p.1) (zip xs ys) ≡ rejected_eq xs ys
 rejected_pairs xs ys e = pairs same_rejected xs ys e ∙ rejected_by xs ys
 
@@ -73,3 +87,15 @@ not_joined_pairs xs ys e = pairs same_not_joined xs ys e ∙ not_joined_by xs ys
 
 pub not_joined_uneven : (xs ys : List NotJoined) → (length xs == length ys) ≡ false → not_joined_eq xs ys ≡ false
 not_joined_uneven xs ys e = sym (not_joined_by xs ys) ∙ uneven same_not_joined xs ys (differ (length xs) (length ys) e)
+
+pub findings_pairs : (xs ys : List Finding) → length xs ≡ length ys → list_all (λ p. same_finding p.0 p.1) (zip xs ys) ≡ findings_eq xs ys
+findings_pairs xs ys e = pairs same_finding xs ys e ∙ findings_by xs ys
+
+pub findings_uneven : (xs ys : List Finding) → (length xs == length ys) ≡ false → findings_eq xs ys ≡ false
+findings_uneven xs ys e = sym (findings_by xs ys) ∙ uneven same_finding xs ys (differ (length xs) (length ys) e)
+
+pub lines_pairs : (xs ys : List Rest) → length xs ≡ length ys → list_all (λ p. line_eq p.0 p.1) (zip xs ys) ≡ lines_eq xs ys
+lines_pairs xs ys e = pairs line_eq xs ys e ∙ lines_by xs ys
+
+pub lines_uneven : (xs ys : List Rest) → (length xs == length ys) ≡ false → lines_eq xs ys ≡ false
+lines_uneven xs ys e = sym (lines_by xs ys) ∙ uneven line_eq xs ys (differ (length xs) (length ys) e)

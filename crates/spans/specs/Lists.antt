@@ -2,11 +2,12 @@
 use Rattle.std.specs.Prelude.{Bool, true, false, ◌&&◌, List, [], ◌∷◌}
 use Rattle.std.specs.Str.{bytes_eq}
 use Rattle.shard_names.specs.Tablets.{alias_eq}
+use Rattle.shard_calls.specs.declared.analysis.Finding.{Finding}
 use Rattle.shard_calls.specs.declared.ending.NotJoined.{NotJoined}
 use Rattle.shard_calls.specs.declared.ending.TabletRow.{TabletRow}
 use Rattle.shard_calls.specs.declared.refusal.NotStopped.{NotStopped}
 use Rattle.shard_calls.specs.declared.refusal.Rejected.{Rejected}
-use Rattle.shard_calls.specs.Same.{left_eq, reason_eq, unreached_eq, shown_type_eq}
+use Rattle.shard_calls.specs.Same.{left_eq, reason_eq, unreached_eq, shown_type_eq, analysis_eq}
 
 -- the lists have as many members, and each is the same as the other in its place
 abbrev pub are_same : {A : Type 0} → (A → A → Bool) → List A → List A → Bool
@@ -26,3 +27,6 @@ same_not_joined x y = alias_eq x.alias y.alias && left_eq x.left y.left
 
 abbrev pub same_row : TabletRow → TabletRow → Bool
 same_row x y = alias_eq x.alias y.alias && bytes_eq x.server y.server && shown_type_eq x.kind y.kind
+
+abbrev pub same_finding : Finding → Finding → Bool
+same_finding x y = alias_eq x.alias y.alias && analysis_eq x.analysis y.analysis

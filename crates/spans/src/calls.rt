@@ -6,7 +6,7 @@ ghost use Rattle.shard_names.specs.Tablets.{alias_eq};
 ghost use Rattle.shard_calls.specs.Kinds.{kind_eq};
 ghost use Rattle.shard_calls.specs.Refusals.{refusal_to, refusal_after, refusal_by_topology};
 ghost use Rattle.shard_calls.specs.declared.answer.Answer.TheVariants as says;
-ghost use Rattle.shard_calls.specs.Causes.{is_this, refusal_of_asked, refusal_by_call, call_refuses, topology_refuses, is_call, outcome_passes, answer_passes, any_answer, is_intended, before_first, is_needed_by_planned, is_of_catching_up, is_needed_by_emergency, is_set_source_kind, is_status_kind, is_promoted_answer};
+ghost use Rattle.shard_calls.specs.Causes.{is_this, refusal_of_asked, refusal_by_call, call_refuses, topology_refuses, is_call, outcome_passes, answer_passes, any_answer, is_intended, before_first, is_taking, from_first, is_needed_by_planned, is_of_catching_up, is_needed_by_emergency, is_set_source_kind, is_status_kind, is_promoted_answer};
 ghost use Rattle.spans.specs.Needed.{is_needed};
 
 use crate::equality::kind_eq;
@@ -221,4 +221,24 @@ pub fn before_intent(span: &[Deed]) -> &[Deed]
     ensures { result.now ≡ before_first is_intended span.now }
 {
     front(span, count_before(span))
+}
+
+fn is_taking(deed: &Deed) -> bool
+    ensures { result ≡ is_taking deed.now }
+{
+    matches!(deed, Deed::Took { .. })
+}
+
+/// What was done since the lock was first asked for.
+pub fn from_taking(span: &[Deed]) -> &[Deed]
+    ensures { result.now ≡ from_first is_taking span.now }
+{
+    let mut left = span;
+    while let Some((deed, more)) = left.split_first() {
+        if is_taking(deed) {
+            return left;
+        }
+        left = more;
+    }
+    left
 }

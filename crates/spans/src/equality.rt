@@ -2,10 +2,12 @@
 
 ghost use Rattle.std.specs.Prelude.{◌≡◌};
 ghost use Rattle.shard_calls.specs.Kinds.{kind_eq};
-ghost use Rattle.shard_calls.specs.Same.{position_eq, why_eq, standing_eq, left_eq, alias_or_none_eq, bar_eq, reason_eq, unreached_eq, unacked_eq, shown_type_eq, record_eq, record_or_none_eq, shard_name_eq};
+ghost use Rattle.shard_calls.specs.Same.{position_eq, why_eq, standing_eq, left_eq, alias_or_none_eq, bar_eq, reason_eq, unreached_eq, unacked_eq, shown_type_eq, record_eq, record_or_none_eq, shard_name_eq, analysis_eq, undone_eq};
 
 use gtid_sets::{GtidSet, covers};
-use shard_calls::{Bar, Kind, Left, Reason, ShownType, Standing, Unacked, Unreached, Why};
+use shard_calls::{
+    Analysis, Bar, Kind, Left, Reason, ShownType, Standing, Unacked, Unreached, Why,
+};
 use shard_names::{Alias, ShardName};
 use topo_lock::Record;
 
@@ -206,4 +208,38 @@ pub fn shard_name_eq(m: &ShardName, n: &ShardName) -> bool
     ensures { result ≡ shard_name_eq m.now n.now }
 {
     m.keyspace == n.keyspace && m.shard == n.shard
+}
+
+pub(crate) fn analysis_eq(x: Analysis, y: Analysis) -> bool
+    ensures { result ≡ analysis_eq x y }
+{
+    match x {
+        Analysis::NoProblem => matches!(y, Analysis::NoProblem),
+        Analysis::ClusterHasNoPrimary => matches!(y, Analysis::ClusterHasNoPrimary),
+        Analysis::DeadPrimaryWithoutReplicas => matches!(y, Analysis::DeadPrimaryWithoutReplicas),
+        Analysis::DeadPrimaryAndReplicas => matches!(y, Analysis::DeadPrimaryAndReplicas),
+        Analysis::DeadPrimaryAndSomeReplicas => matches!(y, Analysis::DeadPrimaryAndSomeReplicas),
+        Analysis::DeadPrimary => matches!(y, Analysis::DeadPrimary),
+        Analysis::PrimaryHasPrimary => matches!(y, Analysis::PrimaryHasPrimary),
+        Analysis::PrimaryIsReadOnly => matches!(y, Analysis::PrimaryIsReadOnly),
+        Analysis::LockedSemiSyncPrimary => matches!(y, Analysis::LockedSemiSyncPrimary),
+        Analysis::ErrantGTIDDetected => matches!(y, Analysis::ErrantGTIDDetected),
+        Analysis::ReplicaIsWritable => matches!(y, Analysis::ReplicaIsWritable),
+        Analysis::ConnectedToWrongPrimary => matches!(y, Analysis::ConnectedToWrongPrimary),
+        Analysis::NotConnectedToPrimary => matches!(y, Analysis::NotConnectedToPrimary),
+        Analysis::ReplicationStopped => matches!(y, Analysis::ReplicationStopped),
+    }
+}
+
+/// Whether an undo was tried in both or in neither, and came to the same.
+pub(crate) fn undone_eq(x: &Option<bool>, y: &Option<bool>) -> bool
+    ensures { result ≡ undone_eq x.now y.now }
+{
+    match x {
+        Some(undone) => match y {
+            Some(other) => if *undone { *other } else { !*other },
+            None => false,
+        },
+        None => y.is_none(),
+    }
 }

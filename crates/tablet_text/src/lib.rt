@@ -15,6 +15,9 @@ mod stand;
 mod tests;
 
 pub use json::{write_shard, write_tablets};
+pub use moment::write_moment;
 pub use number::write_number;
 pub use refusal::write_refusal;
-pub use stand::{write_in_term, write_not_joined, write_standing, write_stands};
+pub use stand::{
+    write_in_term, write_left, write_not_joined, write_standing, write_stands, write_why,
+};

@@ -148,7 +148,7 @@ fn write_promised(term: u64, into: &mut Vec<u8>) -> Result<(), OutOfMemory>
 }
 
 /// Appends why a tablet did not join.
-fn write_left(left: &Left, into: &mut Vec<u8>) -> Result<(), OutOfMemory>
+pub fn write_left(left: &Left, into: &mut Vec<u8>) -> Result<(), OutOfMemory>
     ensures { OnOk result (into.new.items ≡ into.old.items ++ left_text left.now) }
 {
     match left {

@@ -1,3 +1,4 @@
 pub mod IntentLemmas
+pub mod MarkLemmas
 pub mod MoveLemmas
 pub mod AnswerLemmas

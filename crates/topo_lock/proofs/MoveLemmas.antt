@@ -7,10 +7,13 @@ use Rattle.shard_base.specs.Lists.{IsFront}
 use Rattle.shard_names.specs.declared.alias.Alias.{Alias}
 use Rattle.shard_names.proofs.TabletLemmas.{both_left, both_right}
 use Rattle.topo_lock.specs.declared.intent.Intent.{Intent}
-use Rattle.topo_lock.specs.Topology.{Topology, is_held, is_held_in, intent_of, adds_intent}
-use Rattle.topo_lock.specs.Moves.{TopoMove, TopoMoves, Takes, Intends, Records, Releases, Lapses, Stays, Rests, Goes}
+use Rattle.shard_names.specs.Tablets.{is_among}
+use Rattle.topo_lock.specs.Topology.{Topology, is_held, is_held_in, intent_of, adds_intent, marked}
+use Rattle.topo_lock.specs.Moves.{TopoMove, TopoMoves, Takes, Intends, Records, Drains, Releases, Lapses, Stays, Rests, Goes}
 use Rattle.topo_lock.specs.Laws.{EachTermOnce, TermsRise, TermsWithin, KeepsTermsRise, LostLockStaysLost, OneIntentATerm, IntentsAreInOrder, LastIntentIsGreatest, TermNeverFalls, IntentsStay, IntentOfTermStays, KeepsEachTermOnce, KeepsTermsWithin, PastTermsAreSettled}
+use Rattle.topo_lock.specs.Laws.{MarksRise, MarksStay, KeepsMarksRise, MarksAreInOrder, OneMarkATablet}
 use Rattle.topo_lock.proofs.IntentLemmas.{AllByRecursion-push, EachTermOnce-push, TermsRise-push, TermsWithin-later, all_below, within_last, none_found, find-append, find-push}
+use Rattle.topo_lock.proofs.MarkLemmas.{marked_rises, among_stays, each_once}
 
 -- a choice keeps what each side has
 chosen : (P : Topology → Type 0) (b : Bool) (s t : Topology) → (b ≡ true → P s) → P t → P (cond b s t)
@@ -50,6 +53,7 @@ term_step : {s t : Topology} → TopoMove s t → s.term ≤ t.term
 term_step {s} (Takes h) = grind arith
 term_step {s} (Intends u a) = grind arith
 term_step {s} (Records u now) = grind arith
+term_step {s} (Drains u a) = grind arith
 term_step {s} (Releases u) = grind arith
 term_step Lapses = grind arith
 term_step Stays = grind arith
@@ -77,6 +81,7 @@ front_step {s} (Takes h) = chosen (λ t. IsFront s.intents t.intents) (is_held s
 front_step {s} (Intends u a) =
     chosen (λ t. IsFront s.intents t.intents) (adds_intent s u) (with_intent s u a) s (λ adds. record { rest = record { term = u; alias = a } ∷ []; split = refl }) (whole s.intents)
 front_step {s} (Records u now) = chosen (λ t. IsFront s.intents t.intents) (is_held_in s u) _ s (λ held. whole s.intents) (whole s.intents)
+front_step {s} (Drains u a) = chosen (λ t. IsFront s.intents t.intents) (is_held_in s u) _ s (λ held. whole s.intents) (whole s.intents)
 front_step {s} (Releases u) = chosen (λ t. IsFront s.intents t.intents) (is_held_in s u) _ s (λ held. whole s.intents) (whole s.intents)
 front_step {s} Lapses = whole s.intents
 front_step {s} Stays = whole s.intents
@@ -108,6 +113,7 @@ once_step {s} (Takes h) once = chosen (λ t. EachTermOnce t.intents) (is_held s)
 once_step {s} (Intends u a) once =
     chosen (λ t. EachTermOnce t.intents) (adds_intent s u) (with_intent s u a) s (λ adds. EachTermOnce-push s.intents (record { term = u; alias = a }) once (new_term s u adds)) once
 once_step {s} (Records u now) once = chosen (λ t. EachTermOnce t.intents) (is_held_in s u) _ s (λ held. once) once
+once_step {s} (Drains u a) once = chosen (λ t. EachTermOnce t.intents) (is_held_in s u) _ s (λ held. once) once
 once_step {s} (Releases u) once = chosen (λ t. EachTermOnce t.intents) (is_held_in s u) _ s (λ held. once) once
 once_step Lapses once = once
 once_step Stays once = once
@@ -130,6 +136,7 @@ within_step {s} (Takes h) within =
 within_step {s} (Intends u a) within =
     chosen (λ t. TermsWithin t.term t.intents) (adds_intent s u) (with_intent s u a) s (λ adds. within_with_one_more s u a adds within) within
 within_step {s} (Records u now) within = chosen (λ t. TermsWithin t.term t.intents) (is_held_in s u) _ s (λ held. within) within
+within_step {s} (Drains u a) within = chosen (λ t. TermsWithin t.term t.intents) (is_held_in s u) _ s (λ held. within) within
 within_step {s} (Releases u) within = chosen (λ t. TermsWithin t.term t.intents) (is_held_in s u) _ s (λ held. within) within
 within_step Lapses within = within
 within_step Stays within = within
@@ -153,6 +160,7 @@ settled_step {s} u (Intends v a) past =
     (λ adds. let same : s.term ≡ v = own_term s v adds in let other : (v == u) ≡ false = grind (arith, nat_tests) in find-push (λ i. i.term == u) s.intents (record { term = v; alias = a }) other)
     refl
 settled_step {s} u (Records v now) past = chosen (λ t. intent_of t u ≡ intent_of s u) (is_held_in s v) _ s (λ held. refl) refl
+settled_step {s} u (Drains v a) past = chosen (λ t. intent_of t u ≡ intent_of s u) (is_held_in s v) _ s (λ held. refl) refl
 settled_step {s} u (Releases v) past = chosen (λ t. intent_of t u ≡ intent_of s u) (is_held_in s v) _ s (λ held. refl) refl
 settled_step u Lapses past = refl
 settled_step u Stays past = refl
@@ -174,6 +182,7 @@ rise_step {s} (Takes h) within rise = chosen (λ t. TermsRise t.intents) (is_hel
 rise_step {s} (Intends u a) within rise =
     chosen (λ t. TermsRise t.intents) (adds_intent s u) (with_intent s u a) s (λ adds. in_order_with_one_more s u a adds rise within) rise
 rise_step {s} (Records u now) within rise = chosen (λ t. TermsRise t.intents) (is_held_in s u) _ s (λ held. rise) rise
+rise_step {s} (Drains u a) within rise = chosen (λ t. TermsRise t.intents) (is_held_in s u) _ s (λ held. rise) rise
 rise_step {s} (Releases u) within rise = chosen (λ t. TermsRise t.intents) (is_held_in s u) _ s (λ held. rise) rise
 rise_step Lapses within rise = rise
 rise_step Stays within rise = rise
@@ -195,6 +204,7 @@ lost_step {s} u (Takes h) past lost =
     chosen (λ t. is_held_in t u ≡ false) (is_held s) s _ (λ held. lost) (grind (arith, nat_tests))
 lost_step {s} u (Intends v a) past lost = chosen (λ t. is_held_in t u ≡ false) (adds_intent s v) (with_intent s v a) s (λ adds. lost) lost
 lost_step {s} u (Records v now) past lost = chosen (λ t. is_held_in t u ≡ false) (is_held_in s v) _ s (λ held. lost) lost
+lost_step {s} u (Drains v a) past lost = chosen (λ t. is_held_in t u ≡ false) (is_held_in s v) _ s (λ held. lost) lost
 lost_step {s} u (Releases v) past lost = chosen (λ t. is_held_in t u ≡ false) (is_held_in s v) _ s (λ held. refl) lost
 lost_step u Lapses past lost = refl
 lost_step u Stays past lost = lost
@@ -209,6 +219,51 @@ lost_lock_stays_lost s t u m past lost = lost_step u m past lost
 pub lost_lock_stays_lost_over_steps : LostLockStaysLost TopoMoves
 lost_lock_stays_lost_over_steps s t u m past lost = lost_steps u m past lost
 
+-- ---- the marks
+
+-- the topology with one more mark
+abbrev with_mark : Topology → Alias → Topology
+with_mark t a = record t { drained = marked t.drained a }
+
+mark_step : {s t : Topology} (a : Alias) → TopoMove s t → is_among s.drained a ≡ true → is_among t.drained a ≡ true
+mark_step {s} a (Takes h) there = chosen (λ t. is_among t.drained a ≡ true) (is_held s) s _ (λ held. there) there
+mark_step {s} a (Intends u b) there = chosen (λ t. is_among t.drained a ≡ true) (adds_intent s u) (with_intent s u b) s (λ adds. there) there
+mark_step {s} a (Records u now) there = chosen (λ t. is_among t.drained a ≡ true) (is_held_in s u) _ s (λ held. there) there
+mark_step {s} a (Drains u b) there =
+    chosen (λ t. is_among t.drained a ≡ true) (is_held_in s u) (with_mark s b) s (λ held. among_stays s.drained b a there) there
+mark_step {s} a (Releases u) there = chosen (λ t. is_among t.drained a ≡ true) (is_held_in s u) _ s (λ held. there) there
+mark_step a Lapses there = there
+mark_step a Stays there = there
+
+mark_steps : {s t : Topology} (a : Alias) → TopoMoves s t → is_among s.drained a ≡ true → is_among t.drained a ≡ true
+mark_steps a Rests there = there
+mark_steps a (Goes before last) there = mark_step a last (mark_steps a before there)
+
+pub marks_stay : MarksStay TopoMove
+marks_stay s t a m there = mark_step a m there
+
+pub marks_stay_over_steps : MarksStay TopoMoves
+marks_stay_over_steps s t a m there = mark_steps a m there
+
+order_step : {s t : Topology} → TopoMove s t → MarksRise s.drained → MarksRise t.drained
+order_step {s} (Takes h) rise = chosen (λ t. MarksRise t.drained) (is_held s) s _ (λ held. rise) rise
+order_step {s} (Intends u a) rise = chosen (λ t. MarksRise t.drained) (adds_intent s u) (with_intent s u a) s (λ adds. rise) rise
+order_step {s} (Records u now) rise = chosen (λ t. MarksRise t.drained) (is_held_in s u) _ s (λ held. rise) rise
+order_step {s} (Drains u a) rise = chosen (λ t. MarksRise t.drained) (is_held_in s u) (with_mark s a) s (λ held. marked_rises s.drained a rise) rise
+order_step {s} (Releases u) rise = chosen (λ t. MarksRise t.drained) (is_held_in s u) _ s (λ held. rise) rise
+order_step Lapses rise = rise
+order_step Stays rise = rise
+
+order_steps : {s t : Topology} → TopoMoves s t → MarksRise s.drained → MarksRise t.drained
+order_steps Rests rise = rise
+order_steps (Goes before last) rise = order_step last (order_steps before rise)
+
+pub keeps_marks_rise : KeepsMarksRise TopoMove
+keeps_marks_rise s t m rise = order_step m rise
+
+pub keeps_marks_rise_over_steps : KeepsMarksRise TopoMoves
+keeps_marks_rise_over_steps s t m rise = order_steps m rise
+
 -- ---- from the fresh topology
 
 pub one_intent_a_term : OneIntentATerm
@@ -219,3 +274,9 @@ intents_are_in_order t m = (rise_steps m tt tt, within_steps m tt)
 
 pub last_intent_is_greatest : LastIntentIsGreatest
 last_intent_is_greatest t i m last = within_last t.intents i (rise_steps m tt tt) last
+
+pub marks_are_in_order : MarksAreInOrder
+marks_are_in_order t m = order_steps m tt
+
+pub one_mark_a_tablet : OneMarkATablet
+one_mark_a_tablet t m = each_once t.drained (order_steps m tt)

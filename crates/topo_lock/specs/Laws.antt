@@ -1,9 +1,12 @@
 -- The laws of the lock with terms: what holds of every topology, and over every list of steps. After Sougoumarane's "Consensus
--- algorithms at scale": a term is used once, it names one leader, and who held an older one is found out.
-use Rattle.std.specs.Prelude.{◌≡◌, ◌≢◌, ℕ, ◌<◌, ◌≤◌, false, List, [], ◌∷◌, ⊤, Some}
+-- algorithms at scale": a term is used once, it names one leader, and who held an older one is found out. A drained tablet stays
+-- drained (Vitess manual).
+use Rattle.std.specs.Prelude.{◌≡◌, ◌≢◌, ℕ, ◌<◌, ◌≤◌, true, false, List, [], ◌∷◌, ⊤, Some}
 use Rattle.std.specs.List.{AllByRecursion}
+use Rattle.std.specs.declared.cmp.Ordering.TheVariants.{Less}
 use Rattle.shard_base.specs.Lists.{IsFront}
 use Rattle.shard_names.specs.declared.alias.Alias.{Alias}
+use Rattle.shard_names.specs.Tablets.{alias_cmp, is_among}
 use Rattle.topo_lock.specs.declared.intent.Intent.{Intent}
 use Rattle.topo_lock.specs.Topology.{Topology, fresh, is_held_in, intent_of, last_intent, answer_intend, after_intend, lock_lost}
 use Rattle.topo_lock.specs.Moves.{TopoMoves}
@@ -23,6 +26,18 @@ TermsRise (i ∷ is) = AllByRecursion (λ j. i.term < j.term) is × TermsRise is
 -- no intent's term is above this one
 abbrev pub TermsWithin : ℕ → List Intent → Type 0
 TermsWithin term intents = AllByRecursion (λ i. i.term ≤ term) intents
+
+-- ---- facts about the marks
+
+-- each mark is above those before it, in alias order
+abbrev pub MarksRise : List Alias → Type 0
+MarksRise [] = ⊤
+MarksRise (a ∷ ms) = AllByRecursion (λ b. alias_cmp a b ≡ Less) ms × MarksRise ms
+
+-- no mark stands twice
+abbrev pub EachMarkOnce : List Alias → Type 0
+EachMarkOnce [] = ⊤
+EachMarkOnce (a ∷ ms) = (is_among ms a ≡ false) × EachMarkOnce ms
 
 -- ---- the laws, over one step or over any number of steps
 
@@ -62,6 +77,14 @@ PastTermsAreSettled R = (s t : Topology) (term : ℕ) → R s t → term < s.ter
 abbrev pub LostLockStaysLost : Later → Type 0
 LostLockStaysLost R = (s t : Topology) (term : ℕ) → R s t → term ≤ s.term → is_held_in s term ≡ false → is_held_in t term ≡ false
 
+-- a mark, once there, stays
+abbrev pub MarksStay : Later → Type 0
+MarksStay R = (s t : Topology) (a : Alias) → R s t → is_among s.drained a ≡ true → is_among t.drained a ≡ true
+
+-- where the marks were in alias order, they are
+abbrev pub KeepsMarksRise : Later → Type 0
+KeepsMarksRise R = (s t : Topology) → R s t → MarksRise s.drained → MarksRise t.drained
+
 -- ---- the laws of every topology that steps lead to from the fresh one
 
 -- no two intents have one term
@@ -76,6 +99,14 @@ IntentsAreInOrder = (t : Topology) → TopoMoves fresh t → TermsRise t.intents
 abbrev pub LastIntentIsGreatest : Type 0
 LastIntentIsGreatest =
     (t : Topology) (i : Intent) → TopoMoves fresh t → last_intent t ≡ Some i → TermsWithin i.term t.intents
+
+-- the marks are in alias order
+abbrev pub MarksAreInOrder : Type 0
+MarksAreInOrder = (t : Topology) → TopoMoves fresh t → MarksRise t.drained
+
+-- no mark stands twice
+abbrev pub OneMarkATablet : Type 0
+OneMarkATablet = (t : Topology) → TopoMoves fresh t → EachMarkOnce t.drained
 
 -- ---- a law of every topology
 

@@ -1,7 +1,7 @@
--- What a `Topo` keeps beside its topology: the memory behind the room, and intents in the order of their terms.
+-- What a `Topo` keeps beside its topology: the memory behind the room, intents in the order of their terms, and marks in alias order.
 use Rattle.std.specs.Prelude.{◌≤◌, ◌+◌, vec_len, vec_capacity}
 use Rattle.topo_lock.specs.State.{TopoState}
-use Rattle.topo_lock.specs.Laws.{TermsRise, TermsWithin}
+use Rattle.topo_lock.specs.Laws.{TermsRise, TermsWithin, MarksRise}
 use Rattle.topo_lock.specs.declared.topo.Topo.TheInside.{Inside}
 
 abbrev pub state_of : Inside → TopoState
@@ -16,3 +16,4 @@ pub record IsKept (a : Inside) : Type 0 where
   pub marks_fit : a.marks ≤ vec_capacity a.drained
   pub terms_rise : TermsRise a.intents.items
   pub terms_within : TermsWithin a.term a.intents.items
+  pub marks_rise : MarksRise a.drained.items

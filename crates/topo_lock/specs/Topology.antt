@@ -1,10 +1,12 @@
--- The topology of a shard: its lock with terms, the intents and the record of the primary, and what each row of the step table
--- answers and leaves. After the shard lock and the shard record of Vitess's topology service (Vitess manual) and the terms
--- of Sougoumarane's "Consensus algorithms at scale".
+-- The topology of a shard: its lock with terms, the intents, the record of the primary and the marks of drained tablets, and what
+-- each row of the step table answers and leaves. After the shard lock, the shard record and the drained tablets of Vitess's
+-- topology service (Vitess manual) and the terms of Sougoumarane's "Consensus algorithms at scale".
 use Rattle.std.specs.Prelude.{◌≡◌, ◌≢◌, ℕ, ◌+◌, Bool, true, ◌&&◌, ◌==◌, if◌then◌else◌, List, [], ◌∷◌, ◌++◌, is_some, is_none, IsSomeAnd, Option, Some, None, Result, Ok, Err}
 use Rattle.std.specs.List.{find}
 use Rattle.shard_names.specs.declared.alias.Alias.{Alias}
-use Rattle.shard_names.specs.Tablets.{alias_eq}
+use Rattle.std.specs.declared.cmp.Ordering.{Ordering}
+use Rattle.std.specs.declared.cmp.Ordering.TheVariants.{Less, Equal, Greater}
+use Rattle.shard_names.specs.Tablets.{alias_eq, alias_cmp}
 use Rattle.topo_lock.specs.declared.lock.Holder.{Holder}
 use Rattle.topo_lock.specs.declared.lock.LockTaken.{LockTaken}
 use Rattle.topo_lock.specs.declared.lock.TopoFault.{TopoFault}
@@ -110,6 +112,26 @@ record_of (Some i) moment before = Some (record { alias = i.alias; term = i.term
 abbrev pub after_record : Topology → ℕ → ℕ → Topology
 after_record t term moment =
     if is_held_in t term then record t { recorded = record_of (last_intent t) moment t.recorded } else t
+
+-- ---- Drain
+
+abbrev pub answer_drain : Topology → ℕ → Result (Unit {0}) TopoFault
+answer_drain t term = held_or_lost t term
+
+-- the mark a beside the first mark b, in their order: before it, the same, or among the later ones, where it stands in `later`
+abbrev pub marked_by : Ordering → Alias → Alias → List Alias → List Alias → List Alias
+marked_by Less a b bs later = a ∷ b ∷ bs
+marked_by Equal a b bs later = b ∷ bs
+marked_by Greater a b bs later = b ∷ later
+
+-- the marks with this one among them, in alias order: one that is there already is not put in twice
+abbrev pub marked : List Alias → Alias → List Alias
+marked [] a = a ∷ []
+marked (b ∷ bs) a = marked_by (alias_cmp a b) a b bs (marked bs a)
+
+-- only under the lock, and for good: no row takes a mark away
+abbrev pub after_drain : Topology → ℕ → Alias → Topology
+after_drain t term alias = if is_held_in t term then record t { drained = marked t.drained alias } else t
 
 -- ---- Release and Lapse
 

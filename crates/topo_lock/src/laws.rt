@@ -1,5 +1,6 @@
 ghost use Rattle.topo_lock.specs.Moves.{TopoMove, TopoMoves};
 ghost use Rattle.topo_lock.specs.Laws.{TermNeverFalls, IntentsStay, IntentOfTermStays, KeepsEachTermOnce, KeepsTermsWithin, KeepsTermsRise, PastTermsAreSettled, LostLockStaysLost, OneIntentATerm, IntentsAreInOrder, LastIntentIsGreatest, OtherTermsIntendNothing};
+ghost use Rattle.topo_lock.specs.Laws.{MarksStay, KeepsMarksRise, MarksAreInOrder, OneMarkATablet};
 
 /// The term of a topology never falls.
 pub fn term_rises()
@@ -47,4 +48,18 @@ pub fn other_terms_intend_nothing()
 pub fn past_terms_are_settled()
     ensures step { PastTermsAreSettled TopoMove }
     ensures steps { PastTermsAreSettled TopoMoves }
+{}
+
+/// A mark, once there, stays: a drained tablet is drained for good.
+pub fn mark_stays()
+    ensures step { MarksStay TopoMove }
+    ensures steps { MarksStay TopoMoves }
+{}
+
+/// The marks are in alias order, and none stands twice.
+pub fn marks_are_in_order()
+    ensures rise_step { KeepsMarksRise TopoMove }
+    ensures rise_steps { KeepsMarksRise TopoMoves }
+    ensures always { MarksAreInOrder }
+    ensures once { OneMarkATablet }
 {}

@@ -1,9 +1,12 @@
-ghost use Rattle.std.specs.Prelude.{◌≡◌, ◌<◌, ◌≤◌, ◌+◌, ◌-◌, ◌^◌, ◌⊎◌, ◌↔◌, nat_eq, true, false, IsTrue, IsErr, IsSome, IfOk, OnOk, OnErr};
+ghost use Rattle.std.specs.Prelude.{◌≡◌, ◌<◌, ◌≤◌, ◌+◌, ◌-◌, ◌^◌, ◌⊎◌, ◌↔◌, nat_eq, true, false, IsTrue, IsErr, IsSome, IfOk, OnOk, OnErr, length};
 ghost use Rattle.std.specs.List.{find};
+ghost use Rattle.shard_names.specs.Tablets.{is_among};
 ghost use Rattle.topo_lock.specs.Topology.{fresh, is_held, is_held_in, intent_of, last_intent, IntendsLast, IntendsAnother, answer_take, after_take, answer_intend, after_intend, held_or_lost, answer_record, after_record, after_release, after_lapse};
+ghost use Rattle.topo_lock.specs.Topology.{answer_drain, after_drain};
 ghost use Rattle.topo_lock.specs.State.{spare_after_intend};
 ghost use Rattle.topo_lock.specs.Laws.{TermsRise, TermsWithin};
 
+use crate::mark::put_mark;
 use crate::{Holder, Intent, LockTaken, Record, TopoFault};
 use shard_base::OutOfMemory;
 use shard_names::Alias;
@@ -128,7 +131,7 @@ impl Topo {
         self.recorded
     }
 
-    /// The tablets that are marked as drained.
+    /// The tablets that are marked as drained, in alias order.
     pub fn drained(&self) -> &[Alias]
         ensures { result.now ≡ self.now.topology.drained }
     {
@@ -223,6 +226,20 @@ impl Topo {
                 moment,
             });
         }
+        Ok(())
+    }
+
+    /// Marks a tablet as drained, for good. A new mark takes one of the reserved places, and the same tablet again changes nothing.
+    /// `LockLost` says that the lock is not held in this term.
+    pub fn drain(&mut self, term: u64, alias: &Alias) -> Result<(), TopoFault>
+        requires room { (is_among self.old.topology.drained alias.now ≡ true) ⊎ (length self.old.topology.drained < self.old.marks) }
+        ensures answer { result ≡ answer_drain self.old.topology term }
+        ensures lost { (result ≡ Err (TopoFault.LockLost self.old.topology.term)) ↔ (is_held_in self.old.topology term ≡ false) }
+        ensures refused { OnErr result (self.new ≡ self.old) }
+        ensures leaves { self.new ≡ record self.old { topology = after_drain self.old.topology term alias.now } }
+    {
+        self.check_lock(term)?; // A mark is put under the lock alone.
+        put_mark(&mut self.drained, alias);
         Ok(())
     }
 
@@ -332,6 +349,39 @@ mod tests {
             moment: 5,
         };
         assert_eq!(rt; topo.recorded(), Some(record));
+        Ok(())
+    }
+
+    // The marks are in alias order, whatever order they come in, and the same one twice is one.
+    #[test]
+    fn keeps_marks_in_order(rt: HostRuntime) -> Result<(), Fail> {
+        let z100 = alias(&rt, b"zone1-100");
+        let z101 = alias(&rt, b"zone1-101");
+        let mut topo = Topo::new(rt.alloc(), 2)?;
+
+        assert_eq!(rt; topo.take(holder(&rt, 1)), Ok(1));
+        assert_eq!(rt; topo.drain(1, &z101), Ok(()));
+        assert_eq!(rt; topo.drain(1, &z100), Ok(()));
+        assert_eq!(rt; topo.drain(1, &z101), Ok(()));
+        assert_eq!(rt; topo.drained(), [z100, z101].as_slice());
+        Ok(())
+    }
+
+    #[test]
+    fn drains_under_the_lock_alone(rt: HostRuntime) -> Result<(), Fail> {
+        let z100 = alias(&rt, b"zone1-100");
+        let mut topo = Topo::new(rt.alloc(), 1)?;
+
+        assert_eq!(rt; topo.take(holder(&rt, 1)), Ok(1));
+        topo.lapse();
+        assert_eq!(rt; topo.take(holder(&rt, 2)), Ok(2));
+        topo.lapse();
+        assert_eq!(rt;
+            topo.drain(1, &z100),
+            Err(TopoFault::LockLost { current: 2 })
+        );
+        assert_eq!(rt; topo.drained().len(), 0);
+        assert_eq!(rt; topo.marks(), 1);
         Ok(())
     }
 }

@@ -162,6 +162,7 @@ out_has k (deeds.Took reply) is = absurd (let no_way : None ≡ Some k = is in c
 out_has k (deeds.Read reply) is = absurd (let no_way : None ≡ Some k = is in cc)
 out_has k (deeds.Intended a reply) is = absurd (let no_way : None ≡ Some k = is in cc)
 out_has k (deeds.Recorded a reply) is = absurd (let no_way : None ≡ Some k = is in cc)
+out_has k (deeds.Drained a reply) is = absurd (let no_way : None ≡ Some k = is in cc)
 out_has k (deeds.Wrote a reply) is = absurd (let no_way : None ≡ Some k = is in cc)
 out_has k (deeds.Told committed) is = absurd (let no_way : None ≡ Some k = is in cc)
 
@@ -269,6 +270,7 @@ given_at k o (deeds.Took reply) has none = absurd (let no_way : false ≡ true =
 given_at k o (deeds.Read reply) has none = absurd (let no_way : false ≡ true = has in cc)
 given_at k o (deeds.Intended a reply) has none = absurd (let no_way : false ≡ true = has in cc)
 given_at k o (deeds.Recorded a reply) has none = absurd (let no_way : false ≡ true = has in cc)
+given_at k o (deeds.Drained a reply) has none = absurd (let no_way : false ≡ true = has in cc)
 given_at k o (deeds.Wrote a reply) has none = absurd (let no_way : false ≡ true = has in cc)
 given_at k o (deeds.Told committed) has none = absurd (let no_way : false ≡ true = has in cc)
 

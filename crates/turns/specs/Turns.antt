@@ -66,6 +66,7 @@ is_deed_of wants.Take (deeds.Took reply) = true
 is_deed_of wants.Read (deeds.Read reply) = true
 is_deed_of (wants.Intend a) (deeds.Intended b reply) = alias_eq b a
 is_deed_of (wants.Record a) (deeds.Recorded b reply) = alias_eq b a
+is_deed_of (wants.Drain a) (deeds.Drained b reply) = alias_eq b a
 is_deed_of (wants.Ask a call) (deeds.Asked x) = is_ask a (kind_of call) x && is_none x.outcome
 is_deed_of (wants.Write a) (deeds.Wrote b reply) = alias_eq b a
 is_deed_of wants.Tell (deeds.Told committed) = true
@@ -109,6 +110,7 @@ noted_in o (deeds.Took reply) = deeds.Took reply
 noted_in o (deeds.Read reply) = deeds.Read reply
 noted_in o (deeds.Intended a reply) = deeds.Intended a reply
 noted_in o (deeds.Recorded a reply) = deeds.Recorded a reply
+noted_in o (deeds.Drained a reply) = deeds.Drained a reply
 noted_in o (deeds.Wrote a reply) = deeds.Wrote a reply
 noted_in o (deeds.Told committed) = deeds.Told committed
 

@@ -3,7 +3,8 @@
 ghost use Rattle.courses.specs.Walks.{Walks};
 
 use crate::turn::Plays;
-use courses::{Exit, Walk, play};
+use courses::{Exit, Walk};
+use recovery_loop::play;
 use shard_calls::{Command, CommandAnswer, Group, Opening};
 
 /// A command of this shard, right after the beginning of which the opening stood.
@@ -15,8 +16,8 @@ pub struct CommandPlay {
 }
 
 impl Plays for CommandPlay {
-    ghost use Rattle.courses.specs.Course.{course_of};
-    ghost use Rattle.courses.specs.CommandLaws.{course_stable, course_founded};
+    ghost use Rattle.recovery_loop.specs.Course.{course_of};
+    ghost use Rattle.recovery_loop.specs.CommandLaws.{course_stable, course_founded};
 
     ghost group = { λ p. p.group };
 

@@ -1,2 +1,4 @@
+pub mod Findings
 pub mod Texts
 pub mod Notes
+pub mod Summary

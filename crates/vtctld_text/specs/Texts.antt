@@ -16,7 +16,11 @@ use Rattle.shard_calls.specs.declared.command.Command.{Command}
 use Rattle.shard_calls.specs.declared.command.Command.TheVariants as commands
 use Rattle.shard_calls.specs.declared.ending.CommandAnswer.{CommandAnswer}
 use Rattle.shard_calls.specs.declared.ending.CommandAnswer.TheVariants as answers
+use Rattle.shard_calls.specs.declared.analysis.Finding.{Finding}
+use Rattle.shard_calls.specs.declared.ending.Left.{Left}
 use Rattle.shard_calls.specs.declared.ending.NotJoined.{NotJoined}
+use Rattle.shard_calls.specs.declared.ending.Rest.{Rest}
+use Rattle.shard_calls.specs.declared.ending.Rest.TheVariants as rests
 use Rattle.shard_calls.specs.declared.refusal.Refusal.{Refusal}
 use Rattle.shard_calls.specs.declared.event.Event.{Event}
 use Rattle.shard_calls.specs.declared.event.Event.TheVariants as events
@@ -24,9 +28,10 @@ use Rattle.shard_calls.specs.declared.event.Step.{Step}
 use Rattle.shard_calls.specs.declared.stand.Standing.{Standing}
 use Rattle.shard_calls.specs.World.{main_name, numbered}
 use Rattle.vtctld_text.specs.declared.begun.Begun.{Begun}
-use Rattle.tablet_text.specs.Stands.{line, in_term_text, stands_text, standing_text, not_joined_text}
+use Rattle.tablet_text.specs.Stands.{line, in_term_text, stands_text, standing_text, left_text, not_joined_text}
 use Rattle.tablet_text.specs.Refusals.{refusal_text, is_out_of_memory}
 use Rattle.tablet_text.specs.Json.{shard_json, tablets_json}
+use Rattle.vtctld_text.specs.Findings.{finding_text, first_found_text, found_behind}
 
 -- ---- commands
 
@@ -57,6 +62,7 @@ abbrev pub command_text : Command → List ℕ
 command_text (commands.Planned shard new_primary avoid expected timeout allow_cross_cell) = planned_text shard
 command_text (commands.Emergency shard new_primary ignored expected timeout prevent_cross_cell) = emergency_text shard
 command_text (commands.External a) = external_text a
+command_text commands.Vtorc = codes "vtorc"
 command_text (commands.Write to) = codes "write"
 command_text (commands.Show a) = show_text a
 command_text (commands.GetShard shard) = get_shard_text shard
@@ -110,11 +116,13 @@ unknown_text g a term = codes "unknown " ++ written_text g a term
 unfoldable pub shown_text : Standing → Position → List ℕ
 shown_text stand position = standing_text stand ++ codes ", position " ++ position_text position
 
+-- what the first line of an answer says; that of a vtorc says what is amiss first
 abbrev pub said_text : CommandAnswer → List ℕ
 said_text (answers.Promoted a term left) = promoted_text a term
 said_text (answers.NothingToDo a) = nothing_to_do_text a
 said_text (answers.Recorded term) = recorded_text term
 said_text (answers.Refused refusal tried) = refused_text refusal tried
+said_text (answers.Vtorc findings rest) = first_found_text findings
 said_text (answers.Committed g a term) = committed_text g a term
 said_text (answers.NotPrimary a stand) = not_primary_text a stand
 said_text answers.NoPrimaryRecorded = codes "no primary recorded"
@@ -123,26 +131,13 @@ said_text (answers.Shown a stand position) = shown_text stand position
 said_text (answers.Shard shard recorded) = shard_json shard recorded
 said_text (answers.Tablets rows) = tablets_json rows
 
--- the tablets that did not join a new primary
-abbrev pub left_of : CommandAnswer → List NotJoined
-left_of (answers.Promoted a term left) = left
-left_of (answers.NothingToDo a) = []
-left_of (answers.Recorded term) = []
-left_of (answers.Refused refusal tried) = []
-left_of (answers.Committed g a term) = []
-left_of (answers.NotPrimary a stand) = []
-left_of answers.NoPrimaryRecorded = []
-left_of (answers.Unknown g a term) = []
-left_of (answers.Shown a stand position) = []
-left_of (answers.Shard shard recorded) = []
-left_of (answers.Tablets rows) = []
-
 -- whether an answer is JSON, which is printed without the command
 abbrev pub is_json : CommandAnswer → Bool
 is_json (answers.Promoted a term left) = false
 is_json (answers.NothingToDo a) = false
 is_json (answers.Recorded term) = false
 is_json (answers.Refused refusal tried) = false
+is_json (answers.Vtorc findings rest) = false
 is_json (answers.Committed g a term) = false
 is_json (answers.NotPrimary a stand) = false
 is_json answers.NoPrimaryRecorded = false
@@ -151,9 +146,13 @@ is_json (answers.Shown a stand position) = false
 is_json (answers.Shard shard recorded) = true
 is_json (answers.Tablets rows) = true
 
+-- what stands before what a command says
+abbrev pub says_text : Option Begun → List ℕ
+says_text begun = head_text begun ++ codes ": "
+
 -- what stands before what an answer says
 abbrev pub lead_text : Option Begun → CommandAnswer → List ℕ
-lead_text begun x = if is_json x then begin_text begun else head_text begun ++ codes ": "
+lead_text begun x = if is_json x then begin_text begun else says_text begun
 
 unfoldable pub first_line : Option Begun → CommandAnswer → List ℕ
 first_line begun x = line (lead_text begun x ++ said_text x)
@@ -162,8 +161,60 @@ first_line begun x = line (lead_text begun x ++ said_text x)
 abbrev pub left_lines : List ℕ → List NotJoined → List ℕ
 left_lines begin left = flat_map (λ n. line (begin ++ not_joined_text n)) left
 
+-- ---- what a vtorc did about what it found
+
+unfoldable pub joined_text : Alias → Alias → List ℕ
+joined_text a to = codes "joined " ++ alias_text a ++ codes " to " ++ alias_text to
+
+-- the tablet was left as it was, and why
+unfoldable pub left_alone_text : Alias → Left → List ℕ
+left_alone_text a left = codes "left " ++ alias_text a ++ codes ": " ++ left_text left
+
+unfoldable pub drained_text : Alias → List ℕ
+drained_text a = codes "drained " ++ alias_text a
+
+abbrev pub done_text : Rest → List ℕ
+done_text (rests.Promoted a term left) = promoted_text a term
+done_text (rests.Refused refusal tried) = refused_text refusal tried
+done_text (rests.Joined a to) = joined_text a to
+done_text (rests.Left a left) = left_alone_text a left
+done_text (rests.Drained a) = drained_text a
+
+-- the tablets that did not join a primary that it promoted
+abbrev pub left_by : Rest → List NotJoined
+left_by (rests.Promoted a term left) = left
+left_by (rests.Refused refusal tried) = []
+left_by (rests.Joined a to) = []
+left_by (rests.Left a left) = []
+left_by (rests.Drained a) = []
+
+unfoldable pub finding_line : Option Begun → Finding → List ℕ
+finding_line begun f = line (says_text begun ++ finding_text f)
+
+-- a line, and behind it one for each tablet that did not join
+unfoldable pub done_lines : Option Begun → Rest → List ℕ
+done_lines begun r = line (says_text begun ++ done_text r) ++ left_lines (begin_text begun) (left_by r)
+
+-- ---- a whole answer
+
+-- What stands behind the first line: behind a promotion a line for each tablet that did not join; behind what a vtorc found first what else it
+-- found, a line each, and then what it did about it.
+abbrev pub further_lines : Option Begun → CommandAnswer → List ℕ
+further_lines begun (answers.Promoted a term left) = left_lines (begin_text begun) left
+further_lines begun (answers.NothingToDo a) = []
+further_lines begun (answers.Recorded term) = []
+further_lines begun (answers.Refused refusal tried) = []
+further_lines begun (answers.Vtorc findings rest) = flat_map (finding_line begun) (found_behind findings) ++ flat_map (done_lines begun) rest
+further_lines begun (answers.Committed g a term) = []
+further_lines begun (answers.NotPrimary a stand) = []
+further_lines begun answers.NoPrimaryRecorded = []
+further_lines begun (answers.Unknown g a term) = []
+further_lines begun (answers.Shown a stand position) = []
+further_lines begun (answers.Shard shard recorded) = []
+further_lines begun (answers.Tablets rows) = []
+
 abbrev pub answer_text : Option Begun → CommandAnswer → List ℕ
-answer_text begun x = first_line begun x ++ left_lines (begin_text begun) (left_of x)
+answer_text begun x = first_line begun x ++ further_lines begun x
 
 -- ---- a history
 
@@ -174,6 +225,7 @@ begun_by (events.Take c) = []
 begun_by (events.Read c) = []
 begun_by (events.Intend c a) = []
 begun_by (events.Record c a) = []
+begun_by (events.Drain c a) = []
 begun_by (events.Release c) = []
 begun_by events.Lapse = []
 begun_by (events.Send c a call) = []
@@ -201,6 +253,7 @@ event_text commands (events.Take c) = []
 event_text commands (events.Read c) = []
 event_text commands (events.Intend c a) = []
 event_text commands (events.Record c a) = []
+event_text commands (events.Drain c a) = []
 event_text commands (events.Release c) = []
 event_text commands events.Lapse = []
 event_text commands (events.Send c a call) = []
@@ -221,12 +274,22 @@ event_text commands (events.End c x) = answer_text (numbered commands c) x
 abbrev pub text_of : List Step → List ℕ
 text_of steps = flat_map (λ s. event_text (commands_of steps) s.event) steps
 
--- Whether an answer counts as refused: a refused reparent, and a write that is not committed. What is shown never is.
+-- whether what a vtorc did counts as refused: it was refused, or left a tablet as it was
+abbrev pub is_setback : Rest → Bool
+is_setback (rests.Promoted a term left) = false
+is_setback (rests.Refused refusal tried) = true
+is_setback (rests.Joined a to) = false
+is_setback (rests.Left a left) = true
+is_setback (rests.Drained a) = false
+
+-- Whether an answer counts as refused: a refused reparent, a vtorc with a line of that kind, and a write that is not committed. What is shown
+-- never is.
 abbrev pub is_refused : CommandAnswer → Bool
 is_refused (answers.Promoted a term left) = false
 is_refused (answers.NothingToDo a) = false
 is_refused (answers.Recorded term) = false
 is_refused (answers.Refused refusal tried) = true
+is_refused (answers.Vtorc findings rest) = list_any is_setback rest
 is_refused (answers.Committed g a term) = false
 is_refused (answers.NotPrimary a stand) = true
 is_refused answers.NoPrimaryRecorded = true
@@ -241,6 +304,7 @@ refuses (events.Take c) = false
 refuses (events.Read c) = false
 refuses (events.Intend c a) = false
 refuses (events.Record c a) = false
+refuses (events.Drain c a) = false
 refuses (events.Release c) = false
 refuses events.Lapse = false
 refuses (events.Send c a call) = false

@@ -5,9 +5,10 @@ ghost use Rattle.shard_calls.specs.World.{main_name};
 ghost use Rattle.tablet_text.specs.Refusals.{is_out_of_memory};
 ghost use Rattle.tablet_text.specs.Stands.{line, not_joined_text};
 ghost use Rattle.tablet_text.specs.Json.{shard_json, tablets_json};
-ghost use Rattle.vtctld_text.specs.Texts.{prefix_text, planned_text, emergency_text, get_shard_text, get_tablets_text, external_text, show_text, command_text, begin_text, head_text, promoted_text, nothing_to_do_text, recorded_text, undo_text, refused_text, written_text, committed_text, not_primary_text, unknown_text, shown_text, said_text, is_json, lead_text, left_of, first_line, left_lines, answer_text, is_refused};
+ghost use Rattle.vtctld_text.specs.Texts.{prefix_text, planned_text, emergency_text, get_shard_text, get_tablets_text, external_text, show_text, command_text, begin_text, head_text, promoted_text, nothing_to_do_text, recorded_text, undo_text, refused_text, written_text, committed_text, not_primary_text, unknown_text, shown_text, said_text, is_json, says_text, lead_text, first_line, left_lines, further_lines, answer_text, is_refused};
 
 use crate::begun::Begun;
+use crate::watch::{has_setback, write_first_finding, write_watch};
 use gtid_sets::{Gtid, GtidSet, write_position};
 use shard_base::OutOfMemory;
 use shard_calls::{Command, CommandAnswer, NotJoined, Refusal, Standing};
@@ -86,13 +87,17 @@ fn write_show(alias: &Alias, into: &mut Vec<u8>) -> Result<(), OutOfMemory>
 }
 
 /// Appends the command's word, and the shard or the tablet that it was given.
-fn write_command(command: &Command, into: &mut Vec<u8>) -> Result<(), OutOfMemory>
+pub fn write_command(command: &Command, into: &mut Vec<u8>) -> Result<(), OutOfMemory>
     ensures { OnOk result (into.new.items ≡ into.old.items ++ command_text command.now) }
 {
     match command {
         Command::Planned { shard, .. } => write_planned(shard, into),
         Command::Emergency { shard, .. } => write_emergency(shard, into),
         Command::External { alias } => write_external(alias, into),
+        Command::Vtorc => {
+            into.extend_from_slice(b"vtorc")?;
+            Ok(())
+        }
         Command::Write { .. } => {
             into.extend_from_slice(b"write")?;
             Ok(())
@@ -133,7 +138,11 @@ fn write_head(begun: Option<&Begun>, into: &mut Vec<u8>) -> Result<(), OutOfMemo
 }
 
 #[tactic(auto, unfolding(crate::specs::Texts::promoted_text))]
-fn write_promoted(alias: &Alias, term: u64, into: &mut Vec<u8>) -> Result<(), OutOfMemory>
+pub(crate) fn write_promoted(
+    alias: &Alias,
+    term: u64,
+    into: &mut Vec<u8>,
+) -> Result<(), OutOfMemory>
     ensures { OnOk result (into.new.items ≡ into.old.items ++ promoted_text alias.now term) }
 {
     into.extend_from_slice(b"promoted ")?;
@@ -180,7 +189,7 @@ fn is_out_of_memory(refusal: &Refusal) -> bool
 }
 
 #[tactic(auto, unfolding(crate::specs::Texts::refused_text))]
-fn write_refused(
+pub(crate) fn write_refused(
     refusal: &Refusal,
     tried: Option<bool>,
     into: &mut Vec<u8>,
@@ -262,6 +271,7 @@ fn write_said(answer: &CommandAnswer, into: &mut Vec<u8>) -> Result<(), OutOfMem
         CommandAnswer::NothingToDo { alias } => write_nothing_to_do(alias, into),
         CommandAnswer::Recorded { term } => write_recorded(*term, into),
         CommandAnswer::Refused { refusal, undone } => write_refused(refusal, *undone, into),
+        CommandAnswer::Vtorc { findings, .. } => write_first_finding(findings.as_slice(), into),
         CommandAnswer::Committed { gtid, alias, term } => write_committed(gtid, alias, *term, into),
         CommandAnswer::NotPrimary { alias, stand } => write_not_primary(alias, stand, into),
         CommandAnswer::NoPrimaryRecorded => {
@@ -287,6 +297,7 @@ fn is_json(answer: &CommandAnswer) -> bool
         CommandAnswer::NothingToDo { .. } => false,
         CommandAnswer::Recorded { .. } => false,
         CommandAnswer::Refused { .. } => false,
+        CommandAnswer::Vtorc { .. } => false,
         CommandAnswer::Committed { .. } => false,
         CommandAnswer::NotPrimary { .. } => false,
         CommandAnswer::NoPrimaryRecorded => false,
@@ -295,6 +306,15 @@ fn is_json(answer: &CommandAnswer) -> bool
         CommandAnswer::Shard { .. } => true,
         CommandAnswer::Tablets { .. } => true,
     }
+}
+
+/// Appends what stands before what a command says.
+pub(crate) fn write_says(begun: Option<&Begun>, into: &mut Vec<u8>) -> Result<(), OutOfMemory>
+    ensures { OnOk result (into.new.items ≡ into.old.items ++ says_text (option_copied begun.entry)) }
+{
+    write_head(begun, into)?;
+    into.extend_from_slice(b": ")?;
+    Ok(())
 }
 
 /// Appends what stands before what an answer says.
@@ -308,9 +328,7 @@ fn write_lead(
     if is_json(answer) {
         return write_begin(begun, into);
     }
-    write_head(begun, into)?;
-    into.extend_from_slice(b": ")?;
-    Ok(())
+    write_says(begun, into)
 }
 
 #[tactic(auto, unfolding(crate::specs::Texts::first_line))]
@@ -342,7 +360,7 @@ fn write_left_line(
 }
 
 /// Appends a line for each of these tablets.
-fn write_left_lines(
+pub(crate) fn write_left_lines(
     begun: Option<&Begun>,
     left: &[NotJoined],
     into: &mut Vec<u8>,
@@ -355,18 +373,25 @@ fn write_left_lines(
     Ok(())
 }
 
-/// The tablets that did not join a new primary.
-fn left_of(answer: &CommandAnswer) -> &[NotJoined]
-    ensures { result.now ≡ left_of answer.now }
+/// Appends the lines behind the first.
+fn write_further_lines(
+    begun: Option<&Begun>,
+    answer: &CommandAnswer,
+    into: &mut Vec<u8>,
+) -> Result<(), OutOfMemory>
+    ensures { OnOk result (into.new.items ≡ into.old.items ++ further_lines (option_copied begun.entry) answer.now) }
 {
     match answer {
-        CommandAnswer::Promoted { left, .. } => left.as_slice(),
-        _ => &[],
+        CommandAnswer::Promoted { left, .. } => write_left_lines(begun, left.as_slice(), into),
+        CommandAnswer::Vtorc { findings, rest } => {
+            write_watch(begun, findings.as_slice(), rest.as_slice(), into)
+        }
+        _ => Ok(()),
     }
 }
 
 /// Appends the lines of an answer.
-pub(crate) fn write_answer(
+pub fn write_answer(
     begun: Option<&Begun>,
     answer: &CommandAnswer,
     into: &mut Vec<u8>,
@@ -374,7 +399,7 @@ pub(crate) fn write_answer(
     ensures { OnOk result (into.new.items ≡ into.old.items ++ answer_text (option_copied begun.entry) answer.now) }
 {
     write_first_line(begun, answer, into)?;
-    write_left_lines(begun, left_of(answer), into)
+    write_further_lines(begun, answer, into)
 }
 
 /// Whether an answer counts as refused.
@@ -386,6 +411,7 @@ pub(crate) fn is_refused(answer: &CommandAnswer) -> bool
         CommandAnswer::NothingToDo { .. } => false,
         CommandAnswer::Recorded { .. } => false,
         CommandAnswer::Refused { .. } => true,
+        CommandAnswer::Vtorc { rest, .. } => has_setback(rest.as_slice()),
         CommandAnswer::Committed { .. } => false,
         CommandAnswer::NotPrimary { .. } => true,
         CommandAnswer::NoPrimaryRecorded => true,

@@ -49,7 +49,7 @@ fn push_begun(commands: &mut Vec<Begun>, event: &Event) -> Result<(), OutOfMemor
 }
 
 /// The commands that begin, in order.
-fn commands_of(alloc: Global, steps: &[Step]) -> Result<Vec<Begun>, OutOfMemory>
+pub fn commands_of(alloc: Global, steps: &[Step]) -> Result<Vec<Begun>, OutOfMemory>
     ensures { IfOk result (λ commands. commands.items ≡ commands_of steps.now) }
 {
     let mut commands = Vec::new(alloc);
@@ -60,7 +60,7 @@ fn commands_of(alloc: Global, steps: &[Step]) -> Result<Vec<Begun>, OutOfMemory>
 }
 
 /// The command of a number, counted from 1.
-fn command_at(commands: &[Begun], number: u64) -> Option<&Begun>
+pub fn command_at(commands: &[Begun], number: u64) -> Option<&Begun>
     ensures { option_copied result ≡ numbered commands.now number }
 {
     if number == 0 {
@@ -127,7 +127,7 @@ pub fn text_with(alloc: Global, steps: &[Step], notes: &[Note]) -> Result<Vec<u8
     write_with(alloc, &commands, steps, notes)
 }
 
-fn refuses(event: &Event) -> bool
+pub(crate) fn refuses(event: &Event) -> bool
     ensures { result ≡ refuses event.now }
 {
     match event {
@@ -136,7 +136,8 @@ fn refuses(event: &Event) -> bool
     }
 }
 
-/// Whether a command that ended was refused: a refused reparent, or a write that is not committed.
+/// Whether a command that ended was refused: a refused reparent, a `vtorc` that was refused something or left a tablet as it was, or a write
+/// that is not committed.
 pub fn has_refusal(steps: &[Step]) -> bool
     ensures { result ≡ has_refusal steps.now }
 {

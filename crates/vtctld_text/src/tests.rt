@@ -12,15 +12,15 @@ use std::process::Abort;
 use std::test::Fail;
 use uuid::Uuid;
 
-fn alias(rt: &impl Abort, text: &[u8]) -> Alias {
+pub(crate) fn alias(rt: &impl Abort, text: &[u8]) -> Alias {
     Alias::read(text).ok().expect(rt, "an alias")
 }
 
-fn name(rt: &impl Abort, text: &[u8]) -> Name {
+pub(crate) fn name(rt: &impl Abort, text: &[u8]) -> Name {
     Name::from_slice(text).expect(rt, "a name")
 }
 
-fn gtid(last: u8, number: u64) -> Gtid {
+pub(crate) fn gtid(last: u8, number: u64) -> Gtid {
     Gtid {
         server: Uuid::from_bytes([0, 0, 0, 0, 0, 0, 0x40, 0, 0x80, 0, 0, 0, 0, 0, 1, last]),
         number,
@@ -42,14 +42,14 @@ fn write() -> Command {
     Command::Write { to: None }
 }
 
-fn began(actor: Name, command: Command) -> Step {
+pub(crate) fn began(actor: Name, command: Command) -> Step {
     Step {
         event: Event::Begin { actor, command },
         reply: Reply::Begun { command: 1 },
     }
 }
 
-fn ended(answer: CommandAnswer) -> Step {
+pub(crate) fn ended(answer: CommandAnswer) -> Step {
     Step {
         event: Event::End { command: 1, answer },
         reply: Reply::Ok,
@@ -57,7 +57,7 @@ fn ended(answer: CommandAnswer) -> Step {
 }
 
 /// The text of a command that ended so at once.
-fn text_by(
+pub(crate) fn text_by(
     alloc: Global,
     actor: Name,
     command: Command,
@@ -81,11 +81,15 @@ fn prints_promotions(rt: HostRuntime) -> Result<(), Fail> {
     Ok(())
 }
 
-fn push_left(left: &mut Items<NotJoined>, alias: Alias, cause: Left) -> Result<(), OutOfMemory> {
+pub(crate) fn push_left(
+    left: &mut Items<NotJoined>,
+    alias: Alias,
+    cause: Left,
+) -> Result<(), OutOfMemory> {
     left.push(NotJoined { alias, left: cause })
 }
 
-fn one(alloc: Global, gtid: Gtid) -> Result<GtidSet, OutOfMemory> {
+pub(crate) fn one(alloc: Global, gtid: Gtid) -> Result<GtidSet, OutOfMemory> {
     let mut set = GtidSet::empty(alloc);
     set.add(gtid)?;
     Ok(set)
@@ -404,7 +408,7 @@ fn prints_promotions_by_other_hands(rt: HostRuntime) -> Result<(), Fail> {
     Ok(())
 }
 
-fn has_refusal_by(answer: CommandAnswer) -> bool {
+pub(crate) fn has_refusal_by(answer: CommandAnswer) -> bool {
     let steps = [ended(answer)];
     has_refusal(&steps)
 }

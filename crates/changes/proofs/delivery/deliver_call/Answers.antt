@@ -1,4 +1,4 @@
-use Rattle.std.proofs.Common.{ap, ◌∙◌}
+use Rattle.std.proofs.Common.{refl, ap, ◌∙◌}
 use Rattle.shard_calls.specs.declared.answer.Answer.TheVariants as answers
 use Rattle.post.specs.Posted.{Posted}
 use Rattle.shard_state.specs.State.{data_of, seen, config_in, group_in, tablets_of, state_at}
@@ -20,6 +20,7 @@ returns-in-Ok-clause-made c =
     record {
       config = λ i. record { tablets = tablets i; policy = c.args.fields.now.policy; moment = c.args.fields.now.moment };
       aliases = ap (λ (p : Posted). p.aliases) c.arrive.ensures ∙ ap (λ (p : Posted). p.aliases) c.amend.ensures ∙ ap (λ (p : Posted). p.aliases) c.in_ok-number.ensures.ok;
+      marks = refl;
       groups = changes.groups;
       world = called (config_in (data_of c.args.fields.now)) (seen (data_of c.args.fields.now)) c.args.message c.args.command c.args.term c.args.to.now c.args.call.now c.requires.here me.0
           (record { tablets = tablets_of c.run_at.new.managers.items; policy = c.args.fields.now.policy }) (state_at c.run_at.new.managers.items) c.arrive.new.self.messages c.in-Ok.answer me.1

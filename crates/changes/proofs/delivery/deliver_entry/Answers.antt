@@ -1,4 +1,4 @@
-use Rattle.std.proofs.Common.{◌≡◌, ap, sym, true, ◌∙◌}
+use Rattle.std.proofs.Common.{refl, ◌≡◌, ap, sym, true, ◌∙◌}
 use Rattle.shard_calls.specs.declared.post.Content.TheVariants as contents
 use Rattle.shard_calls.specs.Stands.{takes_from}
 use Rattle.post.specs.Posted.{Posted}
@@ -19,6 +19,7 @@ returns-in-Ok-clause-made c =
     record {
       config = λ i. record { tablets = tablets i; policy = c.args.fields.now.policy; moment = c.args.fields.now.moment };
       aliases = ap (λ (p : Posted). p.aliases) c.arrive-in-Ok.ensures ∙ ap (λ (p : Posted). p.aliases) c.in_ok-number.ensures.ok;
+      marks = refl;
       groups = changes.groups;
       world = entry_taken (config_in (data_of c.args.fields.now)) (seen (data_of c.args.fields.now)) c.args.message c.args.term c.args.after c.args.index c.args.from.now c.args.to.now c.args.entry.now c.requires.here
           (record { tablets = tablets_of c.accept_at.new.managers.items; policy = c.args.fields.now.policy }) (state_at c.accept_at.new.managers.items) c.arrive-in-Ok.new.self.messages takes

@@ -12,6 +12,7 @@ returns-in-None-clause-made c =
     (λ reply h. record {
       config = refl;
       aliases = refl;
+      marks = refl;
       groups = refl;
       world = refused (config_in (data_of c.args.fields.now)) (seen (data_of c.args.fields.now)) c.args.command c.args.alias.now _ _ c.stand_at-stand.result c.refuse_write.new.commands.items refl refl c.requires.met stand none h.1;
       reply = refused_reply (config_in (data_of c.args.fields.now)) (seen (data_of c.args.fields.now)) c.args.command c.args.alias.now _ _ c.stand_at-stand.result reply refl refl c.requires.met stand none h.0;

@@ -30,6 +30,7 @@ returns-in-Ok-clause-made c =
     record {
       config = λ i. record { tablets = tablets i; policy = c.args.fields.now.policy; moment = c.args.fields.now.moment };
       aliases = refl;
+      marks = refl;
       groups = changes.groups;
       world = entered (config_in d) (seen d) c.args.command c.args.alias.now c.in-Some.state.now me.0 c.args.term _ c.next_gtid-gtid.result
           (record { tablets = tablets_of c.write_at.new.managers.items; policy = c.args.fields.now.policy }) (state_at c.write_at.new.managers.items) c.note_entry.new.commands.items (sym begun) me.1

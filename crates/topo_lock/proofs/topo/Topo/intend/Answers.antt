@@ -19,6 +19,7 @@ invariant_of-self c =
     record {
       intents_fit = omega arith;
       marks_fit = c.self.invariant.marks_fit;
+      marks_rise = c.self.invariant.marks_rise;
       terms_rise = rw c.push_reserved.ensures.items (in_order_with_one_more before c.args.term c.args.alias.now adds c.self.invariant.terms_rise c.self.invariant.terms_within);
       terms_within = rw c.push_reserved.ensures.items (within_with_one_more before c.args.term c.args.alias.now adds c.self.invariant.terms_within);
     }

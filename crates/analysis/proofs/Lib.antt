@@ -1,0 +1,3 @@
+pub mod KeptLemmas
+pub mod OtherLemmas
+pub mod SaidLemmas

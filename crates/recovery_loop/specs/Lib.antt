@@ -1,0 +1,10 @@
+pub mod Watch
+pub mod Said
+pub mod Course
+pub mod Ends
+pub mod WatchStable
+pub mod WatchSound
+pub mod WatchLaws
+pub mod CommandLaws
+pub mod Decided
+pub mod WatchExamples
