@@ -1,6 +1,6 @@
 -- A command is read exactly as the grammar has it.
 use Rattle.std.proofs.Common.{◌≡◌, ℕ, List, [], ◌∷◌, true, false, cond, eqb, Option, Some, None, Result, length, refl, sym, ap, subst, ◌∙◌, arith}
-use Rattle.std.specs.Prelude.{codes, option_and_then, ◌==◌}
+use Rattle.std.specs.Prelude.{codes, option_and_then}
 use Rattle.std.specs.Result.{result_ok}
 use Rattle.std.specs.Str.{bytes_eq}
 use Rattle.std.proofs.lemmas.Bool.Decides.{nat_tests}
@@ -17,7 +17,7 @@ use Rattle.script_commands.specs.declared.command.Given.{Given}
 use Rattle.script_commands.specs.declared.options.Options.{Options}
 use Rattle.script_commands.specs.Numbers.{number_within}
 use Rattle.script_commands.specs.Options.{options_of}
-use Rattle.script_commands.specs.Commands.{once, fit_planned, fit_emergency, planned_of, emergency_of, planned_command, emergency_command, write_command, write_to_command, show_command, external_command, get_shard_command, get_tablets_command, command_of_two, command_of_four, short_command, command_of}
+use Rattle.script_commands.specs.Commands.{once, fit_planned, fit_emergency, planned_of, emergency_of, planned_command, emergency_command, write_command, write_to_command, show_command, external_command, get_shard_command, get_tablets_command, command_of_one, command_of_two, command_of_four, short_command, command_of}
 use Rattle.script_commands.specs.Grammar.{IsReparent, IsWrite, IsWriteTo, IsOfTablet, IsOfName, IsCommand, CommandsAsSpelled}
 use Rattle.script_commands.proofs.OptionLemmas.{cond_some, bind_some, ok_some, same_bytes, choose}
 use Rattle.script_commands.proofs.NumberLemmas.{within_of, within_reads}
@@ -66,19 +66,19 @@ emergency_given words g h =
 write_of : (count : List ℕ) (g : Given) → write_command count ≡ Some g → IsGiven (codes "write" ∷ count ∷ []) g
 unfolding write_command
 write_of count g h =
-    let p = bind_some (number_within 1 100 count) (λ n. Some (record { command = commands.Write None; count = n })) g h in
-    let within = within_of 1 100 count p.0 p.1 in
+    let p = bind_some (number_within 1 10000 count) (λ n. Some (record { command = commands.Write None; count = n })) g h in
+    let within = within_of 1 10000 count p.0 p.1 in
     let made : Given = record { command = commands.Write None; count = p.0 } in
     let is : made ≡ g = (let e : Some made ≡ Some g = p.2 in cc) in
-    subst (λ (f : Given). IsGiven (codes "write" ∷ count ∷ []) f) is (record { digits = count; words_are = refl; number = within.number; from_one = within.from_least; to_hundred = within.to_most })
+    subst (λ (f : Given). IsGiven (codes "write" ∷ count ∷ []) f) is (record { digits = count; words_are = refl; number = within.number; from_one = within.from_least; to_ten_thousand = within.to_most })
 
 write_to_of : (count to alias : List ℕ) (g : Given) → write_to_command count to alias ≡ Some g → IsGiven (codes "write" ∷ count ∷ to ∷ alias ∷ []) g
 unfolding write_to_command
 write_to_of count to alias g h =
-    let p = cond_some (bytes_eq to (codes "to")) (number_within 1 100 count >>= (λ n. result_ok (alias_reading alias) >>= (λ a. Some (record { command = commands.Write (Some a); count = n })))) g h in
-    let q = bind_some (number_within 1 100 count) (λ n. result_ok (alias_reading alias) >>= (λ a. Some (record { command = commands.Write (Some a); count = n }))) g p.1 in
+    let p = cond_some (bytes_eq to (codes "to")) (number_within 1 10000 count >>= (λ n. result_ok (alias_reading alias) >>= (λ a. Some (record { command = commands.Write (Some a); count = n })))) g h in
+    let q = bind_some (number_within 1 10000 count) (λ n. result_ok (alias_reading alias) >>= (λ a. Some (record { command = commands.Write (Some a); count = n }))) g p.1 in
     let r = bind_some (result_ok (alias_reading alias)) (λ a. Some (record { command = commands.Write (Some a); count = q.0 })) g q.2 in
-    let within = within_of 1 100 count q.0 q.1 in
+    let within = within_of 1 10000 count q.0 q.1 in
     let made : Given = record { command = commands.Write (Some r.0); count = q.0 } in
     let is : made ≡ g = (let e : Some made ≡ Some g = r.2 in cc) in
     let word : to ≡ codes "to" = same_bytes to (codes "to") p.0 in
@@ -88,7 +88,7 @@ write_to_of count to alias g h =
       words_are = ap (λ (t : List ℕ). codes "write" ∷ count ∷ t ∷ alias ∷ []) word;
       number = within.number;
       from_one = within.from_least;
-      to_hundred = within.to_most;
+      to_ten_thousand = within.to_most;
       alias_is = ok_some (alias_reading alias) r.0 r.1;
     })
 
@@ -126,6 +126,12 @@ get_tablets_of name g h = of_name (codes "GetTablets") name (λ n. commands.GetT
 with_first : (a b : List ℕ) (rest : List (List ℕ)) (g : Given) → bytes_eq a b ≡ true → IsGiven (b ∷ rest) g → IsGiven (a ∷ rest) g
 with_first a b rest g is h = subst (λ (t : List ℕ). IsGiven (t ∷ rest) g) (sym (same_bytes a b is)) h
 
+one_of : (a : List ℕ) (g : Given) → command_of_one a ≡ Some g → IsGiven (a ∷ []) g
+one_of a g h =
+    let p = cond_some (bytes_eq a (codes "vtorc")) (Some (once commands.Vtorc)) g h in
+    let is : once commands.Vtorc ≡ g = (let e : Some (once commands.Vtorc) ≡ Some g = p.1 in cc) in
+    with_first a (codes "vtorc") [] g p.0 (subst (λ (f : Given). IsGiven (codes "vtorc" ∷ []) f) is (refl, refl))
+
 two_of : (a b : List ℕ) (g : Given) → command_of_two a b ≡ Some g → IsGiven (a ∷ b ∷ []) g
 two_of a b g h =
     let if_tablets : Option Given = cond (bytes_eq a (codes "GetTablets")) (get_tablets_command b) None in
@@ -148,12 +154,13 @@ four_of a b c d g h =
 
 too_many : (a b c d e : List ℕ) (ws : List (List ℕ)) → short_command a (b ∷ c ∷ d ∷ e ∷ ws) ≡ None
 too_many a b c d e ws =
+    let none : eqb (length (b ∷ c ∷ d ∷ e ∷ ws)) 0 ≡ false = grind (arith, nat_tests) in
     let one : eqb (length (b ∷ c ∷ d ∷ e ∷ ws)) 1 ≡ false = grind (arith, nat_tests) in
     let three : eqb (length (b ∷ c ∷ d ∷ e ∷ ws)) 3 ≡ false = grind (arith, nat_tests) in
-    rw (one, three) refl
+    rw (none, one, three) refl
 
 short_of : (head : List ℕ) (words : List (List ℕ)) (g : Given) → short_command head words ≡ Some g → IsGiven (head ∷ words) g
-short_of head [] g h = absurd (cc)
+short_of head [] g h = one_of head g h
 short_of head (a ∷ []) g h = two_of head a g h
 short_of head (a ∷ b ∷ []) g h = absurd (cc)
 short_of head (a ∷ b ∷ c ∷ []) g h = four_of head a b c g h
@@ -186,12 +193,12 @@ emergency_is words c h =
 write_is : (words : List (List ℕ)) (n : ℕ) (h : IsWrite words n) → write_command h.digits ≡ Some (record { command = commands.Write None; count = n })
 unfolding write_command
 write_is words n h =
-    ap (λ (o : Option ℕ). let r : Option Given = option_and_then (λ k. Some (record { command = commands.Write None; count = k })) o in r) (within_reads 1 100 h.digits n h.number h.from_one h.to_hundred (omega arith))
+    ap (λ (o : Option ℕ). let r : Option Given = option_and_then (λ k. Some (record { command = commands.Write None; count = k })) o in r) (within_reads 1 10000 h.digits n h.number h.from_one h.to_ten_thousand (omega arith))
 
 write_to_is : (words : List (List ℕ)) (a : Alias) (n : ℕ) (h : IsWriteTo words a n) → write_to_command h.digits (codes "to") h.alias_text ≡ Some (record { command = commands.Write (Some a); count = n })
 unfolding write_to_command
 write_to_is words a n h =
-    ap (λ (o : Option ℕ). let r : Option Given = option_and_then (λ k. result_ok (alias_reading h.alias_text) >>= (λ b. Some (record { command = commands.Write (Some b); count = k }))) o in r) (within_reads 1 100 h.digits n h.number h.from_one h.to_hundred (omega arith))
+    ap (λ (o : Option ℕ). let r : Option Given = option_and_then (λ k. result_ok (alias_reading h.alias_text) >>= (λ b. Some (record { command = commands.Write (Some b); count = k }))) o in r) (within_reads 1 10000 h.digits n h.number h.from_one h.to_ten_thousand (omega arith))
     ∙ ap (λ (r : Result Alias NameFault). let o : Option Given = option_and_then (λ b. Some (record { command = commands.Write (Some b); count = n })) (result_ok r) in o) h.alias_is
 
 show_is : (words : List (List ℕ)) (a : Alias) (h : IsOfTablet (codes "show") words a) → show_command h.alias_text ≡ Some (once (commands.Show a))
@@ -223,6 +230,7 @@ command_is words (commands.Emergency name given ignored expected timeout prevent
     counted words c n h.1 (ap (λ (ws : List (List ℕ)). command_of ws) h.0.words_are ∙ emergency_is words c h.0)
 command_is words (commands.External a) n h =
     counted words (commands.External a) n h.1 (ap (λ (ws : List (List ℕ)). command_of ws) h.0.words_are ∙ external_is words a h.0)
+command_is words commands.Vtorc n h = counted words commands.Vtorc n h.1 (ap (λ (ws : List (List ℕ)). command_of ws) h.0)
 command_is words (commands.Write None) n h = ap (λ (ws : List (List ℕ)). command_of ws) h.words_are ∙ write_is words n h
 command_is words (commands.Write (Some a)) n h = ap (λ (ws : List (List ℕ)). command_of ws) h.words_are ∙ write_to_is words a n h
 command_is words (commands.Show a) n h =
@@ -242,6 +250,7 @@ in_time words (commands.Planned name given avoid expected timeout allow_cross_ce
 in_time words (commands.Emergency name given ignored expected timeout prevent_cross_cell) n h =
     emergency_in_time h.0.further h.0.options (commands.Emergency name given ignored expected timeout prevent_cross_cell) h.0.options_are h.0.command_is
 in_time words (commands.External a) n h = refl
+in_time words commands.Vtorc n h = refl
 in_time words (commands.Write to) n h = refl
 in_time words (commands.Show a) n h = refl
 in_time words (commands.GetShard name) n h = refl

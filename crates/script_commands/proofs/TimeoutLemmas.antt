@@ -5,14 +5,13 @@ use Rattle.std.specs.Str.{bytes_eq}
 use Rattle.std.proofs.lemmas.Bool.Decides.{nat_tests}
 use Rattle.shard_base.specs.Options.{◌>>=◌}
 use Rattle.shard_names.specs.ShardName.{shard_name_reading}
-use Rattle.shard_names.specs.declared.shard_name.ShardName.{ShardName}
 use Rattle.shard_calls.specs.declared.command.Command.{Command}
 use Rattle.shard_calls.specs.declared.command.Command.TheVariants as commands
 use Rattle.shard_calls.specs.Begins.{is_in_time}
 use Rattle.script_commands.specs.declared.options.Key.{Key}
 use Rattle.script_commands.specs.declared.options.Key.TheVariants.{NewPrimary, Avoid, Ignored, Expected, Timeout}
 use Rattle.script_commands.specs.declared.options.Options.{Options}
-use Rattle.script_commands.specs.Options.{no_options, alias_once, duration_once, aliases_once, with_new_primary, with_avoid, with_ignored, with_expected, with_timeout, with_value, begins_dash, with_given, key_reading, with_pending, with_key, with_allowed, with_prevented, with_name, equals_place, with_pair, with_option_at, with_short, begins_short, with_option, with_shard, with_free_word, with_word_for, with_word, with_words, options_of}
+use Rattle.script_commands.specs.Options.{no_options, alias_once, duration_once, aliases_once, with_new_primary, with_avoid, with_ignored, with_expected, with_timeout, with_value, begins_dash, with_given, key_reading, with_pending, with_key, with_allowed, with_prevented, with_name, equals_place, with_pair, with_option_at, with_short, begins_short, with_option, with_shard, with_word_for, with_word, with_words, options_of}
 use Rattle.script_commands.specs.Commands.{fit_planned, fit_emergency, planned_of, emergency_of}
 use Rattle.script_commands.proofs.OptionLemmas.{bind_some, cond_some}
 use Rattle.script_commands.proofs.DurationLemmas.{duration_of}

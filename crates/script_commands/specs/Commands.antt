@@ -1,4 +1,4 @@
--- The commands of a line: those of vtctldclient (Vitess manual), and a client's writes.
+-- The commands of a line: those of vtctldclient, a look by VTOrc (Vitess manual), and a client's writes.
 use Rattle.std.specs.Prelude.{ℕ, List, [], ◌∷◌, ◌==◌, Bool, ◌&&◌, not, Option, Some, None, is_none, if◌then◌else◌, length, slice_index_or, codes}
 use Rattle.std.specs.Result.{result_ok}
 use Rattle.std.specs.Str.{bytes_eq}
@@ -54,13 +54,13 @@ emergency_command words = do
 
 -- `write N`
 unfoldable pub write_command : List ℕ → Option Given
-write_command count = number_within 1 100 count >>= (λ n. Some (record { command = commands.Write None; count = n }))
+write_command count = number_within 1 10000 count >>= (λ n. Some (record { command = commands.Write None; count = n }))
 
 -- the words of `write N to ALIAS` behind the first
 unfoldable pub write_to_command : List ℕ → List ℕ → List ℕ → Option Given
 write_to_command count to alias = if bytes_eq to (codes "to")
     then (do
-      n ← number_within 1 100 count
+      n ← number_within 1 10000 count
       a ← result_ok (alias_reading alias)
       Some (record { command = commands.Write (Some a); count = n })) else None
 
@@ -83,6 +83,10 @@ get_tablets_command name = shard_name_reading name >>= (λ n. Some (once (comman
 abbrev pub word : List (List ℕ) → ℕ → List ℕ
 word words k = slice_index_or words k []
 
+-- a command that is one word
+abbrev pub command_of_one : List ℕ → Option Given
+command_of_one head = if bytes_eq head (codes "vtorc") then Some (once commands.Vtorc) else None
+
 abbrev pub command_of_two : List ℕ → List ℕ → Option Given
 command_of_two head a =
     if bytes_eq head (codes "write") then write_command a
@@ -98,7 +102,8 @@ command_of_four head a b c = if bytes_eq head (codes "write") then write_to_comm
 -- a command of so many words behind the first
 abbrev pub short_command : List ℕ → List (List ℕ) → Option Given
 short_command head words =
-    if length words == 1 then command_of_two head (word words 0)
+    if length words == 0 then command_of_one head
+    else if length words == 1 then command_of_two head (word words 0)
     else if length words == 3 then command_of_four head (word words 0) (word words 1) (word words 2)
     else None
 

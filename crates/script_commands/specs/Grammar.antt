@@ -1,5 +1,5 @@
 -- The grammar of a command: which words give it.
-use Rattle.std.specs.Prelude.{◌≡◌, ◌↔◌, ℕ, ◌*◌, ◌<◌, ◌≤◌, List, [], ◌∷◌, ◌++◌, true, Option, Some, None, Ok, length, codes}
+use Rattle.std.specs.Prelude.{◌≡◌, ◌↔◌, ℕ, ◌<◌, ◌≤◌, List, [], ◌∷◌, true, Option, Some, None, Ok, length, codes}
 use Rattle.std.specs.Char.{is_ascii_digit}
 use Rattle.std.specs.List.{list_all}
 use Rattle.std.specs.Str.Parse.{digits_value}
@@ -34,22 +34,22 @@ pub record IsReparent (head : List ℕ) (made : Options → Option Command) (wor
   pub options_are : options_of further ≡ Some options
   pub command_is : made options ≡ Some command
 
--- `write N`: N from 1 to 100
+-- `write N`: N from 1 to 10,000
 pub record IsWrite (words : List (List ℕ)) (count : ℕ) : Type 0 where
   pub digits : List ℕ
   pub words_are : words ≡ codes "write" ∷ digits ∷ []
   pub number : IsNumber digits count
   pub from_one : 1 ≤ count
-  pub to_hundred : count ≤ 100
+  pub to_ten_thousand : count ≤ 10000
 
--- `write N to ALIAS`: N from 1 to 100
+-- `write N to ALIAS`: N from 1 to 10,000
 pub record IsWriteTo (words : List (List ℕ)) (alias : Alias) (count : ℕ) : Type 0 where
   pub digits : List ℕ
   pub alias_text : List ℕ
   pub words_are : words ≡ codes "write" ∷ digits ∷ codes "to" ∷ alias_text ∷ []
   pub number : IsNumber digits count
   pub from_one : 1 ≤ count
-  pub to_hundred : count ≤ 100
+  pub to_ten_thousand : count ≤ 10000
   pub alias_is : alias_reading alias_text ≡ Ok alias
 
 -- a word and ALIAS
@@ -71,6 +71,7 @@ IsCommand words (commands.Planned name given avoid expected timeout allow_cross_
 IsCommand words (commands.Emergency name given ignored expected timeout prevent_cross_cell) n =
     IsReparent (codes "EmergencyReparentShard") emergency_of words (commands.Emergency name given ignored expected timeout prevent_cross_cell) × (n ≡ 1)
 IsCommand words (commands.External a) n = IsOfTablet (codes "TabletExternallyReparented") words a × (n ≡ 1)
+IsCommand words commands.Vtorc n = (words ≡ codes "vtorc" ∷ []) × (n ≡ 1)
 IsCommand words (commands.Write None) n = IsWrite words n
 IsCommand words (commands.Write (Some a)) n = IsWriteTo words a n
 IsCommand words (commands.Show a) n = IsOfTablet (codes "show") words a × (n ≡ 1)

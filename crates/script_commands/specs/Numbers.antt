@@ -1,5 +1,5 @@
 -- Numbers in decimal digits, and durations.
-use Rattle.std.specs.Prelude.{ℕ, ◌+◌, ◌-◌, ◌*◌, ◌^◌, List, ◌&&◌, not, nat_le, nat_lt, Option, Some, None, if◌then◌else◌, length, take, drop, position, codes}
+use Rattle.std.specs.Prelude.{ℕ, ◌+◌, ◌-◌, ◌*◌, ◌^◌, List, Bool, false, ◌&&◌, not, nat_le, nat_lt, Option, Some, None, is_some, if◌then◌else◌, length, take, drop, position, codes}
 use Rattle.std.specs.Char.{is_ascii_digit}
 use Rattle.std.specs.List.{list_all}
 use Rattle.std.specs.Str.{bytes_eq}
@@ -36,6 +36,11 @@ unit_place text = position (λ b. not (is_ascii_digit b)) text
 -- so many units, if that is at most a day
 abbrev pub within_a_day : ℕ → ℕ → Option ℕ
 within_a_day n unit = only_if (nat_le (n * unit) 86400000) (n * unit)
+
+-- 1 to 9 decimal digits and a unit, however long that is
+abbrev pub is_duration : List ℕ → Bool
+is_duration text =
+    elim (unit_place text) [ None ↦ false | Some k ↦ nat_le k 9 && is_some (number_reading (take k text)) && is_some (unit_reading (drop k text)) ]
 
 -- The milliseconds of a duration: 1 to 9 decimal digits and a unit, at most a day in all.
 unfoldable pub duration_reading : List ℕ → Option ℕ

@@ -1,6 +1,6 @@
 ghost use Rattle.std.specs.Prelude.{◌≡◌, map, IfOk};
 ghost use Rattle.script_commands.specs.Numbers.{number_within};
-ghost use Rattle.script_commands.specs.Commands.{fit_planned, fit_emergency, planned_of, emergency_of, planned_command, emergency_command, write_command, write_to_command, show_command, external_command, get_shard_command, get_tablets_command, command_of_two, command_of_four, short_command, command_of};
+ghost use Rattle.script_commands.specs.Commands.{fit_planned, fit_emergency, planned_of, emergency_of, planned_command, emergency_command, write_command, write_to_command, show_command, external_command, get_shard_command, get_tablets_command, command_of_one, command_of_two, command_of_four, short_command, command_of};
 
 use crate::number::read_within;
 use crate::options::{Options, options_of};
@@ -17,11 +17,11 @@ pub struct Given {
 }
 
 /// The most writes of a line.
-const MOST_WRITES: u64 = 100;
+const MOST_WRITES: u64 = 10_000;
 
 /// How many writes a line asks for.
 fn read_writes(count: &[u8]) -> Option<u64>
-    ensures { result ≡ number_within 1 100 count.now }
+    ensures { result ≡ number_within 1 10000 count.now }
 {
     read_within(count, 1, MOST_WRITES)
 }
@@ -174,6 +174,19 @@ fn get_tablets_command(name: &[u8]) -> Option<Given>
     })
 }
 
+fn command_of_one(head: &[u8]) -> Option<Given>
+    ensures { result ≡ command_of_one head.now }
+{
+    if head == b"vtorc".as_slice() {
+        Some(Given {
+            command: Command::Vtorc,
+            count: 1,
+        })
+    } else {
+        None
+    }
+}
+
 fn command_of_two(head: &[u8], a: &[u8]) -> Option<Given>
     ensures { result ≡ command_of_two head.now a.now }
 {
@@ -206,7 +219,9 @@ fn command_of_four(head: &[u8], a: &[u8], b: &[u8], c: &[u8]) -> Option<Given>
 fn short_command(head: &[u8], words: &[&[u8]]) -> Option<Given>
     ensures { result ≡ short_command head.now (map (λ w. w.now) words.now) }
 {
-    if words.len() == 1 {
+    if words.is_empty() {
+        command_of_one(head)
+    } else if words.len() == 1 {
         command_of_two(head, words[0])
     } else if words.len() == 3 {
         command_of_four(head, words[0], words[1], words[2])

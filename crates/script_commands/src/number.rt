@@ -1,5 +1,5 @@
 ghost use Rattle.std.specs.Prelude.{◌≡◌, ◌<◌, length, IfSome};
-ghost use Rattle.script_commands.specs.Numbers.{with_digit, number_reading, number_within, unit_reading, unit_place, within_a_day, duration_reading};
+ghost use Rattle.script_commands.specs.Numbers.{with_digit, number_reading, number_within, unit_reading, unit_place, within_a_day, is_duration, duration_reading};
 
 /// The number with one more digit, if it has 64 bits.
 fn push_digit(value: u64, byte: u8) -> Option<u64>
@@ -72,6 +72,20 @@ fn within_a_day(number: u64, unit: u64) -> Option<u64>
         return None;
     }
     Some(milliseconds)
+}
+
+/// Whether a text is 1 to 9 digits and a unit, however long the duration is.
+pub fn is_duration(text: &[u8]) -> bool
+    ensures { result ≡ is_duration text.now }
+{
+    match find_unit(text) {
+        None => false,
+        Some(place) => {
+            place <= 9
+                && read_number(&text[..place]).is_some()
+                && read_unit(&text[place..]).is_some()
+        }
+    }
 }
 
 /// The milliseconds of a duration: 1 to 9 digits and a unit, at most a day in all.

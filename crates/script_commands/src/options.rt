@@ -11,7 +11,7 @@ use std::alloc::Global;
 
 /// An option that has a value.
 #[derive(Clone, Copy)]
-pub(crate) enum Key {
+pub enum Key {
     NewPrimary,
     Avoid,
     Ignored,
@@ -194,7 +194,8 @@ fn with_value(
     }
 }
 
-fn begins_dash(text: &[u8]) -> bool
+/// Whether a word begins with a dash, as no value does.
+pub fn begins_dash(text: &[u8]) -> bool
     ensures { result ≡ begins_dash text.now }
 {
     text.first().is_some_and(|byte| *byte == b'-')
@@ -216,8 +217,8 @@ fn with_given(
     with_value(alloc, options, key, text)
 }
 
-/// The option of this name.
-fn read_key(text: &[u8]) -> Option<Key>
+/// The option of this name, if it has a value.
+pub fn read_key(text: &[u8]) -> Option<Key>
     ensures { result ≡ key_reading text.now }
 {
     if text == b"--new-primary".as_slice() {
@@ -288,7 +289,7 @@ fn with_name(options: Options, word: &[u8]) -> Option<Options>
 }
 
 /// The place of the first `=`.
-fn find_equals(word: &[u8]) -> Option<usize>
+pub fn find_equals(word: &[u8]) -> Option<usize>
     ensures value { result ≡ equals_place word.now }
     ensures within { IfSome result (λ k. k < length word.now) }
 {
@@ -346,7 +347,8 @@ fn with_short(
     }
 }
 
-fn begins_short(word: &[u8]) -> bool
+/// Whether a word begins as the short option `-i`.
+pub fn begins_short(word: &[u8]) -> bool
     ensures { result ≡ begins_short word.now }
 {
     word.starts_with(b"-i")
@@ -362,7 +364,7 @@ fn with_end(options: Options) -> Options
 }
 
 /// What stands behind `-i`.
-fn behind_short(word: &[u8]) -> &[u8]
+pub fn behind_short(word: &[u8]) -> &[u8]
     requires { 2 ≤ length word.now }
     ensures { result.now ≡ drop 2 word.now }
 {

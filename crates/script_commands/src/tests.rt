@@ -48,3 +48,23 @@ fn keeps_the_tablets_that_are_left_out(rt: HostRuntime) -> Result<(), Fail> {
     assert_eq!(rt; emergency(rt.alloc(), &none)?, Some((0, None)));
     Ok(())
 }
+
+/// Whether the words give a look by `vtorc`, once.
+fn is_vtorc(alloc: Global, words: &[&[u8]]) -> Result<bool, OutOfMemory> {
+    let Some(given) = command_of(alloc, words)? else {
+        return Ok(false);
+    };
+    match given.command {
+        Command::Vtorc => Ok(given.count == 1),
+        _ => Ok(false),
+    }
+}
+
+#[test]
+fn vtorc_is_one_word(rt: HostRuntime) -> Result<(), Fail> {
+    assert_eq!(rt; is_vtorc(rt.alloc(), &[b"vtorc".as_slice()])?, true);
+    assert_eq!(rt; is_vtorc(rt.alloc(), &[b"vtorc".as_slice(), b"--"])?, false);
+    assert_eq!(rt; is_vtorc(rt.alloc(), &[b"VTOrc".as_slice()])?, false);
+    assert_eq!(rt; is_vtorc(rt.alloc(), &[b"write".as_slice()])?, false);
+    Ok(())
+}

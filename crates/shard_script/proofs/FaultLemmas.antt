@@ -32,7 +32,7 @@ ends_here place s l ls at fault got =
       here = fault [] ∙ ap (λ (n : ℕ). let r : Result Script ℕ = Err n in r) same;
     }
 
-goes_on : (place : ℕ) (s u : Script) (l : List ℕ) (ls : List (List ℕ)) (at : ℕ) → place ≤ 1000 → with_bytes s l ≡ Some u → Faulted (place + 1) u ls at → Faulted place s (l ∷ ls) at
+goes_on : (place : ℕ) (s u : Script) (l : List ℕ) (ls : List (List ℕ)) (at : ℕ) → place ≤ 20000 → with_bytes s l ≡ Some u → Faulted (place + 1) u ls at → Faulted place s (l ∷ ls) at
 goes_on place s u l ls at room added f = record {
   done = suc f.done;
   at_is = omega (arith, f.at_is);
@@ -42,24 +42,24 @@ goes_on place s u l ls at room added f = record {
   here = step_on place s u l (take (suc f.done) ls) room added ∙ f.here;
 }
 
-past_fault : (place : ℕ) (s : Script) (l : List ℕ) → ltb 1000 place ≡ true → (ks : List (List ℕ)) → read_on place s (l ∷ ks) ≡ Err place
+past_fault : (place : ℕ) (s : Script) (l : List ℕ) → ltb 20000 place ≡ true → (ks : List (List ℕ)) → read_on place s (l ∷ ks) ≡ Err place
 past_fault place s l past ks = ap (λ (b : Bool). let r : Result Script ℕ = cond b (Err place) (elim (with_bytes s l) [ None ↦ Err place | Some t ↦ read_on (place + 1) t ks ]) in r) past
 
-line_fault : (place : ℕ) (s : Script) (l : List ℕ) → ltb 1000 place ≡ false → with_bytes s l ≡ None → (ks : List (List ℕ)) → read_on place s (l ∷ ks) ≡ Err place
+line_fault : (place : ℕ) (s : Script) (l : List ℕ) → ltb 20000 place ≡ false → with_bytes s l ≡ None → (ks : List (List ℕ)) → read_on place s (l ∷ ks) ≡ Err place
 line_fault place s l room none ks =
     ap (λ (b : Bool). let r : Result Script ℕ = cond b (Err place) (elim (with_bytes s l) [ None ↦ Err place | Some t ↦ read_on (place + 1) t ks ]) in r) room
     ∙ ap (λ (o : Option Script). let r : Result Script ℕ = elim o [ None ↦ Err place | Some t ↦ read_on (place + 1) t ks ] in r) none
 
-fault_by : (place : ℕ) (s : Script) (l : List ℕ) (ls : List (List ℕ)) (at : ℕ) (b : Bool) (o : Option Script) → ltb 1000 place ≡ b → with_bytes s l ≡ o → read_on place s (l ∷ ls) ≡ Err at → ((u : Script) → read_on (place + 1) u ls ≡ Err at → Faulted (place + 1) u ls at) → Faulted place s (l ∷ ls) at
+fault_by : (place : ℕ) (s : Script) (l : List ℕ) (ls : List (List ℕ)) (at : ℕ) (b : Bool) (o : Option Script) → ltb 20000 place ≡ b → with_bytes s l ≡ o → read_on place s (l ∷ ls) ≡ Err at → ((u : Script) → read_on (place + 1) u ls ≡ Err at → Faulted (place + 1) u ls at) → Faulted place s (l ∷ ls) at
 fault_by place s l ls at true o past with got rest = ends_here place s l ls at (past_fault place s l past) got
 fault_by place s l ls at false None past with got rest = ends_here place s l ls at (line_fault place s l past with) got
 fault_by place s l ls at false (Some u) past with got rest =
-    let room : place ≤ 1000 = grind (arith, nat_tests) in
+    let room : place ≤ 20000 = grind (arith, nat_tests) in
     goes_on place s u l ls at room with (rest u (sym (step_on place s u l ls room with) ∙ got))
 
 faulted : (place : ℕ) (s : Script) (ls : List (List ℕ)) (at : ℕ) → read_on place s ls ≡ Err at → Faulted place s ls at
 faulted place s [] at got = absurd (let e : Ok s ≡ Err at = got in cc)
-faulted place s (l ∷ ls) at got = fault_by place s l ls at (ltb 1000 place) (with_bytes s l) refl refl got (λ u h. faulted (place + 1) u ls at h)
+faulted place s (l ∷ ls) at got = fault_by place s l ls at (ltb 20000 place) (with_bytes s l) refl refl got (λ u h. faulted (place + 1) u ls at h)
 
 -- a front of what is read is read
 front_read : (place : ℕ) (s t : Script) (ls : List (List ℕ)) (n : ℕ) → read_on place s ls ≡ Ok t → (u : Script) × (read_on place s (take n ls) ≡ Ok u)
@@ -113,7 +113,7 @@ fault_of lines at f = by_result (read_lines lines) refl
 
 -- ---- the whole text
 
-long_fault : (text : List ℕ) (at : ℕ) → 65536 < length text → fault_behind (ended_lines (first_bytes text)) (read_lines (ended_lines (first_bytes text))) ≡ Err at → HasFault text at
+long_fault : (text : List ℕ) (at : ℕ) → 1048576 < length text → fault_behind (ended_lines (first_bytes text)) (read_lines (ended_lines (first_bytes text))) ≡ Err at → HasFault text at
 long_fault text at long got = by_result (read_lines (ended_lines (first_bytes text))) refl got
   where
     by_result : (r : Result Script ℕ) → read_lines (ended_lines (first_bytes text)) ≡ r → fault_behind (ended_lines (first_bytes text)) r ≡ Err at → HasFault text at
@@ -122,22 +122,22 @@ long_fault text at long got = by_result (read_lines (ended_lines (first_bytes te
 
 pub faults_as_spelled : FaultsAsSpelled
 unfolding reading
-faults_as_spelled text at = ((λ got. has text at (nat_le (length text) 65536) refl got), (λ h. is text at h))
+faults_as_spelled text at = ((λ got. has text at (nat_le (length text) 1048576) refl got), (λ h. is text at h))
   where
-    has : (text : List ℕ) (at : ℕ) (b : Bool) → nat_le (length text) 65536 ≡ b → cond b (read_lines (lines_of text)) (fault_behind (ended_lines (first_bytes text)) (read_lines (ended_lines (first_bytes text)))) ≡ Err at → HasFault text at
+    has : (text : List ℕ) (at : ℕ) (b : Bool) → nat_le (length text) 1048576 ≡ b → cond b (read_lines (lines_of text)) (fault_behind (ended_lines (first_bytes text)) (read_lines (ended_lines (first_bytes text)))) ≡ Err at → HasFault text at
     has text at true test got = in_short (grind (arith, nat_tests)) (first_fault (lines_of text) at got)
     has text at false test got = long_fault text at (grind (arith, nat_tests)) got
 
-    by : (text : List ℕ) (b : Bool) → nat_le (length text) 65536 ≡ b → cond (nat_le (length text) 65536) (read_lines (lines_of text)) (fault_behind (ended_lines (first_bytes text)) (read_lines (ended_lines (first_bytes text)))) ≡ cond b (read_lines (lines_of text)) (fault_behind (ended_lines (first_bytes text)) (read_lines (ended_lines (first_bytes text))))
+    by : (text : List ℕ) (b : Bool) → nat_le (length text) 1048576 ≡ b → cond (nat_le (length text) 1048576) (read_lines (lines_of text)) (fault_behind (ended_lines (first_bytes text)) (read_lines (ended_lines (first_bytes text)))) ≡ cond b (read_lines (lines_of text)) (fault_behind (ended_lines (first_bytes text)) (read_lines (ended_lines (first_bytes text))))
     by text b test = ap (λ (c : Bool). cond c (read_lines (lines_of text)) (fault_behind (ended_lines (first_bytes text)) (read_lines (ended_lines (first_bytes text))))) test
 
-    short_is : (text : List ℕ) → length text ≤ 65536 → nat_le (length text) 65536 ≡ true
+    short_is : (text : List ℕ) → length text ≤ 1048576 → nat_le (length text) 1048576 ≡ true
     short_is text h = grind (arith, nat_tests)
 
-    long_is : (text : List ℕ) → 65536 < length text → nat_le (length text) 65536 ≡ false
+    long_is : (text : List ℕ) → 1048576 < length text → nat_le (length text) 1048576 ≡ false
     long_is text h = grind (arith, nat_tests)
 
-    is : (text : List ℕ) (at : ℕ) → HasFault text at → cond (nat_le (length text) 65536) (read_lines (lines_of text)) (fault_behind (ended_lines (first_bytes text)) (read_lines (ended_lines (first_bytes text)))) ≡ Err at
+    is : (text : List ℕ) (at : ℕ) → HasFault text at → cond (nat_le (length text) 1048576) (read_lines (lines_of text)) (fault_behind (ended_lines (first_bytes text)) (read_lines (ended_lines (first_bytes text)))) ≡ Err at
     is text at (in_short short f) = by text true (short_is text short) ∙ fault_of (lines_of text) at f
     is text at (in_long long f) = by text false (long_is text long) ∙ ap (λ (r : Result Script ℕ). fault_behind (ended_lines (first_bytes text)) r) (fault_of (ended_lines (first_bytes text)) at f)
     is text at (too_long s long spelled last) =

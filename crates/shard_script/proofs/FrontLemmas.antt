@@ -4,13 +4,14 @@ use Rattle.std.specs.Prelude.{nat_le}
 use Rattle.std.proofs.lemmas.Bool.Decides.{nat_tests}
 use Rattle.std.proofs.lemmas.List.{take-take, take_all, length-take}
 use Rattle.shard_script.specs.declared.script.Script.{Script}
+use Rattle.shard_script.specs.Faults.{fault_in, first_fault, FrontDecidesFault}
 use Rattle.shard_script.specs.Script.{front, reading, read_lines, lines_of, ended_lines, first_bytes, fault_behind, FrontDecides}
 
 -- one reading up to a length, and another by as many bytes of a longer text
-read_by : (ℕ → List ℕ → Result Script ℕ) → (List ℕ → Result Script ℕ) → ℕ → List ℕ → Result Script ℕ
+read_by : {A : Type 0} → (ℕ → List ℕ → A) → (List ℕ → A) → ℕ → List ℕ → A
 read_by long short most text = cond (nat_le (length text) most) (short text) (long most (take most text))
 
-by_front : (long : ℕ → List ℕ → Result Script ℕ) (short : List ℕ → Result Script ℕ) (most more : ℕ) (text : List ℕ) → most < more → read_by long short most text ≡ read_by long short most (take more text)
+by_front : {A : Type 0} (long : ℕ → List ℕ → A) (short : List ℕ → A) (most more : ℕ) (text : List ℕ) → most < more → read_by long short most text ≡ read_by long short most (take more text)
 unfolding read_by
 by_front long short most more text less = by_test (nat_le (length text) most) refl
   where
@@ -31,4 +32,8 @@ by_front long short most more text less = by_test (nat_le (length text) most) re
 pub front_decides : FrontDecides
 unfolding reading first_bytes front read_by
 front_decides text =
-    by_front (λ n t. fault_behind (ended_lines t) (read_lines (ended_lines t))) (λ t. read_lines (lines_of t)) 65536 65537 text (omega arith)
+    by_front (λ n t. fault_behind (ended_lines t) (read_lines (ended_lines t))) (λ t. read_lines (lines_of t)) 1048576 1048577 text (omega arith)
+
+pub front_decides_fault : FrontDecidesFault
+unfolding first_fault first_bytes front read_by
+front_decides_fault text = by_front (λ n t. fault_in (ended_lines t)) (λ t. fault_in (lines_of t)) 1048576 1048577 text (omega arith)

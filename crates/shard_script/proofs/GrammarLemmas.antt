@@ -1,5 +1,5 @@
 -- What is read is what the grammar spells.
-use Rattle.std.proofs.Common.{◌≡◌, ◌≢◌, ℕ, ◌+◌, ◌≤◌, List, [], ◌∷◌, ◌++◌, true, false, not, ◌&&◌, Option, Some, Ok, length, refl, sym, ap, subst, ◌∙◌, arith}
+use Rattle.std.proofs.Common.{◌≡◌, ◌≢◌, ℕ, ◌+◌, ◌≤◌, List, [], ◌∷◌, ◌++◌, ◌⊎◌, inl, inr, true, false, not, ◌&&◌, Option, Some, None, Ok, length, refl, sym, ap, subst, ◌∙◌, arith}
 use Rattle.std.specs.Prelude.{All, is_some, is_none, ◌==◌, nat_lt}
 use Rattle.std.specs.List.{AllZip}
 use Rattle.std.specs.List.Sorted.{IsPermutation}
@@ -13,19 +13,19 @@ use Rattle.shard_names.specs.declared.tablet.Tablet.{Tablet as TabletData}
 use Rattle.shard_names.specs.Tablets.{alias_eq, ServersDiffer}
 use Rattle.shard_names.proofs.TabletLemmas.{alias_eq-Decides}
 use Rattle.durability.specs.declared.policy.Durability.{Durability}
-use Rattle.shard_calls.specs.declared.command.Command.TheVariants.{Planned, Emergency, External, Write, Show, GetShard, GetTablets}
+use Rattle.shard_calls.specs.declared.command.Command.TheVariants.{Planned, Emergency, External, Vtorc, Write, Show, GetShard, GetTablets}
 use Rattle.shard_script.specs.declared.line.Line.{Line}
-use Rattle.shard_script.specs.declared.line.Line.TheVariants.{Shard, Tablet, Act}
+use Rattle.shard_script.specs.declared.line.Line.TheVariants.{Shard, Tablet, Clock, Act}
 use Rattle.shard_script.specs.declared.script.Action.{Action}
 use Rattle.shard_script.specs.declared.script.Action.TheVariants as actions
 use Rattle.shard_script.specs.declared.script.Script.{Script}
 use Rattle.shard_script.specs.Script.{FitsShard, read_on, read_lines, admits, with_line, has_alias, has_server, in_place, empty_script}
-use Rattle.shard_script.specs.Grammar.{IsShardLine, IsTabletLine, IsActionLine, Says, AliasesDiffer, IsOfShard, IsShardScript, IsScript, Spell, told_lines}
+use Rattle.shard_script.specs.Grammar.{IsShardLine, IsTabletLine, IsActionLine, AreDeclarations, Says, AliasesDiffer, IsOfShard, IsShardScript, IsScript, Spell, told_lines}
 use Rattle.shard_script.specs.Grammar.IsScript.{is_empty, is_shard_script}
 use Rattle.script_commands.proofs.OptionLemmas.{and_both, not_true}
 use Rattle.shard_script.proofs.LineLemmas.{says_of}
 use Rattle.shard_script.proofs.TabletsInOrder.{or_false, any-in_place, permuted-in_place, All-map}
-use Rattle.shard_script.proofs.ScriptLemmas.{line_with_bytes, fits_lines}
+use Rattle.shard_script.proofs.ScriptLemmas.{none_is, line_with_bytes, fits_lines}
 use Rattle.shard_script.proofs.ToldLemmas.{Tells, all_tell, step_of, bytes_on, told_on}
 
 -- one tablet after another in its place
@@ -40,20 +40,32 @@ pub record IsNew (ts : List TabletData) (e : TabletData) : Type 0 where
 
 -- ---- from what is read to the grammar
 
+-- the clock that is declared, or else the one before
+abbrev pub clock_by : Option ℕ → Option ℕ → Option ℕ
+clock_by known None = known
+clock_by known (Some m) = Some m
+
+pub clock_alone : (o : Option ℕ) → clock_by None o ≡ o
+clock_alone None = refl
+clock_alone (Some m) = refl
+
 -- lines that were read behind the shard
 record Rest (s t : Script) (ls : List (List ℕ)) : Type 0 where
-  tablet_lines : List (List ℕ)
+  declaration_lines : List (List ℕ)
   action_lines : List (List ℕ)
   declared : List TabletData
+  clock : Option ℕ
   done : List Action
-  split : ls ≡ tablet_lines ++ action_lines
-  say_tablets : AllZip IsTabletLine tablet_lines declared
+  split : ls ≡ declaration_lines ++ action_lines
+  are_declarations : AreDeclarations declaration_lines declared clock
   say_actions : AllZip IsActionLine action_lines done
   shard : t.shard ≡ s.shard
   policy : t.policy ≡ s.policy
   tablets : t.tablets ≡ placed s.tablets declared
+  clock_is : t.clock ≡ clock_by s.clock clock
+  once : (m : ℕ) → s.clock ≡ Some m → clock ≡ None
   actions : t.actions ≡ s.actions ++ done
-  none_after : (s.actions ≡ [] → ⊥) → (tablet_lines ≡ []) × (declared ≡ [])
+  none_after : (s.actions ≡ [] → ⊥) → (declaration_lines ≡ []) × (declared ≡ []) × (clock ≡ None)
   are_new : All (IsNew s.tablets) declared
   aliases_differ : AliasesDiffer declared
   servers_differ : ServersDiffer declared
@@ -61,6 +73,7 @@ record Rest (s t : Script) (ls : List (List ℕ)) : Type 0 where
 shard_kept : (s : Script) (name : ShardName) (line : Line) → s.shard ≡ Some name → admits s line ≡ true → (with_line s line).shard ≡ Some name
 shard_kept s name (Shard n p) named ok = absurd (false≢true (ap (λ (o : Option ShardName). is_none o) (sym named) ∙ ok))
 shard_kept s name (Tablet t) named ok = named
+shard_kept s name (Clock m) named ok = named
 shard_kept s name (Act x) named ok = named
 
 new_before : (d : TabletData) (ts : List TabletData) (e : TabletData) → IsNew (in_place d ts) e → IsNew ts e
@@ -91,42 +104,77 @@ tablet_tests s t ok =
     let p4 = and_both (is_some s.shard) (length s.actions == 0) p3.0 in
     (nil_from_length s.actions (eqb-true (length s.actions) 0 p4.1), record { alias = not_true (has_alias s.tablets t.alias) p2.1; server = not_true (has_server s.tablets t.server) p1.1 })
 
+clock_tests : (s : Script) (m : ℕ) → admits s (Clock m) ≡ true → (s.actions ≡ []) × (s.clock ≡ None)
+clock_tests s m ok =
+    let p = and_both (is_some s.shard && (length s.actions == 0)) (is_none s.clock) ok in
+    let q = and_both (is_some s.shard) (length s.actions == 0) p.0 in
+    (nil_from_length s.actions (eqb-true (length s.actions) 0 q.1), none_is s.clock p.1)
+
 rest_with : (s t : Script) (name : ShardName) (l : List ℕ) (ls : List (List ℕ)) (line : Line) → s.shard ≡ Some name → Says l line → admits s line ≡ true → Rest (with_line s line) t ls → Rest s t (l ∷ ls)
 rest_with s t name l ls (Shard n p) named says ok r = absurd (false≢true (ap (λ (o : Option ShardName). is_none o) (sym named) ∙ ok))
 rest_with s t name l ls (Tablet d) named says ok r =
     let tests = tablet_tests s d ok in
     record {
-      tablet_lines = l ∷ r.tablet_lines;
+      declaration_lines = l ∷ r.declaration_lines;
       action_lines = r.action_lines;
       declared = d ∷ r.declared;
+      clock = r.clock;
       done = r.done;
       split = ap (λ (x : List (List ℕ)). l ∷ x) r.split;
-      say_tablets = (says, r.say_tablets);
+      are_declarations = inl (record { tablet = d; others = r.declared; tablets_are = refl; says = says; behind = r.are_declarations });
       say_actions = r.say_actions;
       shard = r.shard;
       policy = r.policy;
       tablets = r.tablets;
+      clock_is = r.clock_is;
+      once = r.once;
       actions = r.actions;
       none_after = λ some. absurd (some tests.0);
       are_new = All-cons (IsNew s.tablets) d r.declared tests.1 (All-map (IsNew (in_place d s.tablets)) (IsNew s.tablets) r.declared (λ e h. new_before d s.tablets e h) r.are_new);
       aliases_differ = (All-map (IsNew (in_place d s.tablets)) (λ e. d.alias ≢ e.alias) r.declared (λ e h. other_alias d s.tablets e h) r.are_new, r.aliases_differ);
       servers_differ = (All-map (IsNew (in_place d s.tablets)) (λ e. bytes_eq d.server e.server ≡ true → ⊥) r.declared (λ e h. other_server d s.tablets e h) r.are_new, r.servers_differ);
     }
+rest_with s t name l ls (Clock m) named says ok r =
+    let tests = clock_tests s m ok in
+    let last = r.once m refl in
+    record {
+      declaration_lines = l ∷ r.declaration_lines;
+      action_lines = r.action_lines;
+      declared = r.declared;
+      clock = Some m;
+      done = r.done;
+      split = ap (λ (x : List (List ℕ)). l ∷ x) r.split;
+      are_declarations = inr (record { moment = m; clock_is = refl; says = says; behind = subst (λ (o : Option ℕ). AreDeclarations r.declaration_lines r.declared o) last r.are_declarations });
+      say_actions = r.say_actions;
+      shard = r.shard;
+      policy = r.policy;
+      tablets = r.tablets;
+      clock_is = r.clock_is ∙ ap (λ (o : Option ℕ). clock_by (Some m) o) last;
+      once = λ k is. absurd (let e : None ≡ Some k = sym tests.1 ∙ is in cc);
+      actions = r.actions;
+      none_after = λ some. absurd (some tests.0);
+      are_new = r.are_new;
+      aliases_differ = r.aliases_differ;
+      servers_differ = r.servers_differ;
+    }
 rest_with s t name l ls (Act x) named says ok r =
     let nothing = r.none_after (push_some s.actions x) in
     record {
-      tablet_lines = [];
+      declaration_lines = [];
       action_lines = l ∷ r.action_lines;
       declared = [];
+      clock = None;
       done = x ∷ r.done;
       split = ap (λ (y : List (List ℕ)). l ∷ y) (r.split ∙ ap (λ (y : List (List ℕ)). y ++ r.action_lines) nothing.0);
-      say_tablets = tt;
+      are_declarations = (refl, refl);
       say_actions = (says, r.say_actions);
       shard = r.shard;
       policy = r.policy;
       tablets = r.tablets ∙ ap (λ (y : List TabletData). placed s.tablets y) nothing.1;
+      clock_is = r.clock_is ∙ ap (λ (o : Option ℕ). clock_by s.clock o) nothing.2;
+      once = λ m is. refl;
       actions = r.actions ∙ append_assoc s.actions (x ∷ []) r.done;
-      none_after = λ some. (refl, refl);
+      none_after = λ some. (refl, refl, refl);
       are_new = All-nil (IsNew s.tablets);
       aliases_differ = tt;
       servers_differ = tt;
@@ -136,18 +184,21 @@ rest_of : (place : ℕ) (s t : Script) (name : ShardName) (ls : List (List ℕ))
 rest_of place s t name [] tell named got =
     let same : s ≡ t = (let e : Ok s ≡ Ok t = got in cc) in
     subst (λ (x : Script). Rest s x []) same (record {
-      tablet_lines = [];
+      declaration_lines = [];
       action_lines = [];
       declared = [];
+      clock = None;
       done = [];
       split = refl;
-      say_tablets = tt;
+      are_declarations = (refl, refl);
       say_actions = tt;
       shard = refl;
       policy = refl;
       tablets = refl;
+      clock_is = refl;
+      once = λ m is. refl;
       actions = sym (append-nil s.actions);
-      none_after = λ some. (refl, refl);
+      none_after = λ some. (refl, refl, refl);
       are_new = All-nil (IsNew s.tablets);
       aliases_differ = tt;
       servers_differ = tt;
@@ -175,6 +226,7 @@ of_this : (o : Option ShardName) (name : ShardName) → o ≡ Some name → (x :
 of_this o name is (actions.Play (Planned n given avoid expected timeout allow_cross_cell) k) h = let e : Some n ≡ Some name = sym h.0 ∙ is in cc
 of_this o name is (actions.Play (Emergency n given ignored expected timeout prevent_cross_cell) k) h = let e : Some n ≡ Some name = sym h.0 ∙ is in cc
 of_this o name is (actions.Play (External a) k) h = tt
+of_this o name is (actions.Play Vtorc k) h = tt
 of_this o name is (actions.Play (Write to) k) h = tt
 of_this o name is (actions.Play (Show a) k) h = tt
 of_this o name is (actions.Play (GetShard n) k) h = let e : Some n ≡ Some name = sym h.0 ∙ is in cc
@@ -182,6 +234,7 @@ of_this o name is (actions.Play (GetTablets n) k) h = let e : Some n ≡ Some na
 of_this o name is (actions.Start starter (Planned n given avoid expected timeout allow_cross_cell)) h = let e : Some n ≡ Some name = sym h ∙ is in cc
 of_this o name is (actions.Start starter (Emergency n given ignored expected timeout prevent_cross_cell)) h = let e : Some n ≡ Some name = sym h ∙ is in cc
 of_this o name is (actions.Start starter (External a)) h = tt
+of_this o name is (actions.Start starter Vtorc) h = tt
 of_this o name is (actions.Start starter (Write to)) h = tt
 of_this o name is (actions.Start starter (Show a)) h = tt
 of_this o name is (actions.Start starter (GetShard n)) h = let e : Some n ≡ Some name = sym h ∙ is in cc
@@ -202,6 +255,7 @@ of_this o name is (actions.Tick ms) h = tt
 first_line : (line : Line) → admits empty_script line ≡ true → (name : ShardName) × (policy : Durability) × (line ≡ Shard name policy)
 first_line (Shard name policy) ok = (name, policy, refl)
 first_line (Tablet t) ok = absurd (false≢true ok)
+first_line (Clock m) ok = absurd (false≢true ok)
 first_line (Act x) ok = absurd (false≢true ok)
 
 shard_script : (l : List ℕ) (ls : List (List ℕ)) (t : Script) → All Tells (l ∷ ls) → read_lines (l ∷ ls) ≡ Ok t → IsShardScript (l ∷ ls) t
@@ -217,13 +271,13 @@ shard_script l ls t tell got =
     let tablets : IsPermutation r.declared t.tablets = subst (λ (xs : List TabletData). IsPermutation r.declared xs) (sym r.tablets) (permuted_all r.declared) in
     record {
       first = l;
-      tablet_lines = r.tablet_lines;
+      declaration_lines = r.declaration_lines;
       action_lines = r.action_lines;
       split = ap (λ (x : List (List ℕ)). l ∷ x) r.split;
       name = first.0;
       declared = r.declared;
       says_shard = subst (λ (p : Durability). IsShardLine l first.0 p) (sym r.policy) says;
-      say_tablets = r.say_tablets;
+      are_declarations = subst (λ (o : Option ℕ). AreDeclarations r.declaration_lines r.declared o) (sym (r.clock_is ∙ clock_alone r.clock)) r.are_declarations;
       say_actions = subst (λ (xs : List Action). AllZip IsActionLine r.action_lines xs) (sym r.actions) r.say_actions;
       shard = r.shard;
       tablets = tablets;
@@ -239,7 +293,7 @@ shard_script l ls t tell got =
       known = fits.known;
     }
 
-few_on : (place : ℕ) (s t : Script) (ls : List (List ℕ)) → place ≤ 1001 → read_on place s ls ≡ Ok t → place + length ls ≤ 1001
+few_on : (place : ℕ) (s t : Script) (ls : List (List ℕ)) → place ≤ 20001 → read_on place s ls ≡ Ok t → place + length ls ≤ 20001
 few_on place s t [] le got = omega arith
 few_on place s t (l ∷ ls) le got =
     let step = step_of place s t l ls got in

@@ -1,6 +1,4 @@
-pub mod ServerLemmas
 pub mod LineLemmas
-pub mod PolicyLemmas
 pub mod TabletsInOrder
 pub mod NameLemmas
 pub mod DeclaredLemmas
@@ -12,3 +10,5 @@ pub mod FaultLemmas
 pub mod FrontLemmas
 pub mod ToldLemmas
 pub mod WordLemmas
+pub mod GeneratorLemmas
+pub mod ReadLemmas

@@ -16,21 +16,22 @@ use Rattle.shard_calls.specs.declared.event.Side.{Side}
 use Rattle.shard_calls.specs.declared.event.Side.TheVariants as sides
 use Rattle.script_commands.specs.declared.command.Given.{Given}
 use Rattle.shard_script.specs.declared.line.Line.{Line}
-use Rattle.shard_script.specs.declared.line.Line.TheVariants.{Shard, Tablet, Act}
+use Rattle.shard_script.specs.declared.line.Line.TheVariants.{Shard, Tablet, Clock, Act}
 use Rattle.shard_script.specs.declared.script.Action.{Action}
 use Rattle.shard_script.specs.declared.script.Action.TheVariants.{Play, Start, Turn, Finish, Settle, Local, Crash, Restart, Cut, Mend, Lose, Repeat, Lapse, Tick}
+use Rattle.script_commands.specs.Moments.{moment_reading}
 use Rattle.script_commands.specs.Numbers.{number_reading, number_within, duration_reading}
-use Rattle.shard_script.specs.Names.{name_reading}
 use Rattle.shard_script.specs.Aliases.{are_ends}
 use Rattle.script_commands.specs.Commands.{command_of}
-use Rattle.shard_script.specs.Lines.{words_of, server_reading, kind_reading, policy_reading, shard_line, tablet_line, play_line, start_line, turn_line, finish_line, tick_line, local_line, crash_line, restart_line, side_reading, link_reading, cut_line, mend_line, lose_line, repeat_line, one_word, tablet_or_message, two_words, three_words, four_words, plain_line, begins_command, started_line, line_of_words, line_of}
+use Rattle.shard_script.specs.Lines.{words_of, shard_line, tablet_line, clock_line, play_line, start_line, turn_line, finish_line, tick_line, local_line, crash_line, restart_line, link_reading, cut_line, mend_line, lose_line, repeat_line, one_word, tablet_or_message, two_words, three_words, four_words, plain_line, begins_command, started_line, line_of_words, line_of}
+use Rattle.script_commands.specs.Words.{name_reading, server_reading, kind_reading, policy_reading, side_reading}
 use Rattle.script_commands.specs.Grammar.{IsCommand, IsOfTablet}
 use Rattle.shard_script.specs.Grammar.{IsTypeWord, IsSide, IsLinkLine, Says}
 use Rattle.script_commands.proofs.OptionLemmas.{cond_some, bind_some, only_if_some, ok_some, same_bytes, choose}
 use Rattle.script_commands.proofs.NumberLemmas.{number_of, number_small, within_of}
 use Rattle.script_commands.proofs.DurationLemmas.{duration_of}
 use Rattle.shard_script.proofs.NameLemmas.{name_of}
-use Rattle.shard_script.proofs.PolicyLemmas.{policy_of}
+use Rattle.script_commands.proofs.PolicyLemmas.{policy_of}
 use Rattle.script_commands.proofs.CommandLemmas.{IsGiven, given_of}
 
 -- ---- from what is read to what is said
@@ -68,6 +69,13 @@ says_tablet line alias kind server x words h =
       type_is = type_word kind q.0 q.1;
       server_is = r.1;
     })
+
+says_clock : (line moment : List ℕ) (x : Line) → words_of line ≡ codes "clock" ∷ moment ∷ [] → clock_line moment ≡ Some x → Says line x
+unfolding clock_line
+says_clock line moment x words h =
+    let p = bind_some (moment_reading moment) (λ m. Some (Clock m)) x h in
+    let is : Clock p.0 ≡ x = (let e : Some (Clock p.0) ≡ Some x = p.2 in cc) in
+    subst (λ (y : Line). Says line y) is (record { moment_text = moment; words = words; moment_is = p.1 })
 
 says_play : (line : List ℕ) (words : List (List ℕ)) (given : Option Given) (x : Line) → words_of line ≡ words → ((g : Given) → given ≡ Some g → IsGiven words g) → play_line given ≡ Some x → Says line x
 unfolding play_line
@@ -238,11 +246,14 @@ says_tablet_or_message line a b x words h =
 
 says_two : (line a b : List ℕ) (x : Line) → words_of line ≡ a ∷ b ∷ [] → two_words a b ≡ Some x → Says line x
 says_two line a b x words h =
-    choose (Says line x) (bytes_eq a (codes "finish")) (finish_line b) (cond (bytes_eq a (codes "tick")) (tick_line b) (tablet_or_message a b)) x h
+    let if_tick : Option Line = cond (bytes_eq a (codes "tick")) (tick_line b) (tablet_or_message a b) in
+    choose (Says line x) (bytes_eq a (codes "clock")) (clock_line b) (cond (bytes_eq a (codes "finish")) (finish_line b) if_tick) x h
+    (λ is got. says_clock line b x (first_is line a (codes "clock") (b ∷ []) words is) got)
+    (λ behind_clock. choose (Says line x) (bytes_eq a (codes "finish")) (finish_line b) if_tick x behind_clock
     (λ is got. says_finish line b x (first_is line a (codes "finish") (b ∷ []) words is) got)
     (λ others. choose (Says line x) (bytes_eq a (codes "tick")) (tick_line b) (tablet_or_message a b) x others
     (λ is got. says_tick line b x (first_is line a (codes "tick") (b ∷ []) words is) got)
-    (λ last. says_tablet_or_message line a b x words last))
+    (λ last. says_tablet_or_message line a b x words last)))
 
 says_three : (line a b c : List ℕ) (x : Line) → words_of line ≡ a ∷ b ∷ c ∷ [] → three_words a b c ≡ Some x → Says line x
 says_three line a b c x words h =

@@ -14,27 +14,27 @@ use Rattle.shard_names.specs.declared.tablet.TabletType.TheVariants.{Replica, Rd
 use Rattle.durability.specs.declared.policy.Durability.{Durability}
 use Rattle.durability.specs.Policies.{policy_name}
 use Rattle.shard_calls.specs.declared.command.Command.{Command}
-use Rattle.shard_calls.specs.declared.command.Command.TheVariants.{Planned, Emergency, External, Write, Show, GetShard, GetTablets}
+use Rattle.shard_calls.specs.declared.command.Command.TheVariants.{Planned, Emergency, External, Vtorc, Write, Show, GetShard, GetTablets}
 use Rattle.shard_calls.specs.declared.event.Link.{Link}
 use Rattle.shard_calls.specs.declared.event.Side.{Side}
 use Rattle.shard_calls.specs.declared.event.Side.TheVariants as sides
 use Rattle.script_commands.specs.declared.command.Given.{Given}
 use Rattle.shard_script.specs.declared.line.Line.{Line}
-use Rattle.shard_script.specs.declared.line.Line.TheVariants.{Shard, Tablet, Act}
+use Rattle.shard_script.specs.declared.line.Line.TheVariants.{Shard, Tablet, Clock, Act}
 use Rattle.shard_script.specs.declared.script.Action.TheVariants.{Play, Start, Turn, Finish, Settle, Local, Crash, Restart, Cut, Mend, Lose, Repeat, Lapse, Tick}
 use Rattle.script_commands.specs.Numbers.{number_reading, number_within}
-use Rattle.shard_script.specs.Names.{name_reading}
 use Rattle.shard_script.specs.Aliases.{are_ends}
-use Rattle.shard_script.specs.Lines.{words_of, server_reading, kind_reading, policy_reading, shard_line, tablet_line, play_line, start_line, turn_line, finish_line, tick_line, local_line, crash_line, restart_line, side_reading, link_reading, cut_line, mend_line, lose_line, repeat_line, line_of_words, line_of}
+use Rattle.shard_script.specs.Lines.{words_of, shard_line, tablet_line, clock_line, play_line, start_line, turn_line, finish_line, tick_line, local_line, crash_line, restart_line, link_reading, cut_line, mend_line, lose_line, repeat_line, line_of_words, line_of}
+use Rattle.script_commands.specs.Words.{name_reading, server_reading, kind_reading, policy_reading, side_reading}
 use Rattle.script_commands.specs.Commands.{command_of}
 use Rattle.script_commands.specs.Grammar.{IsCommand, IsOfTablet}
-use Rattle.shard_script.specs.Grammar.{IsShardLine, IsTypeWord, IsTabletLine, IsStartLine, IsTurnLine, IsFinishLine, IsSettleLine, IsLapseLine, IsTickLine, IsCrashLine, IsSide, IsLinkLine, IsMessageLine, Says}
+use Rattle.shard_script.specs.Grammar.{IsShardLine, IsTypeWord, IsTabletLine, IsClockLine, IsStartLine, IsTurnLine, IsFinishLine, IsSettleLine, IsLapseLine, IsTickLine, IsCrashLine, IsSide, IsLinkLine, IsMessageLine, Says}
 use Rattle.script_commands.proofs.OptionLemmas.{same_bytes}
 use Rattle.script_commands.proofs.NumberLemmas.{number_reads, within_reads}
 use Rattle.script_commands.proofs.DurationLemmas.{duration_reads}
 use Rattle.shard_script.proofs.NameLemmas.{name_reads, not_same}
 use Rattle.script_commands.proofs.CommandLemmas.{command_is}
-use Rattle.shard_script.proofs.PolicyLemmas.{policy_is}
+use Rattle.script_commands.proofs.PolicyLemmas.{policy_is}
 
 shard_read : (line : List ℕ) (name : ShardName) (policy : Durability) → IsShardLine line name policy → line_of line ≡ Some (Shard name policy)
 unfolding line_of_words shard_line
@@ -56,12 +56,19 @@ tablet_read line t h =
     ∙ ap (λ (o : Option TabletType). option_and_then (λ k. server_reading h.server_text >>= (λ s. Some (Tablet (record { alias = t.alias; server = s; kind = k })))) o) (kind_is h.type_text t.kind h.type_is)
     ∙ ap (λ (o : Option (List ℕ)). option_and_then (λ s. Some (Tablet (record { alias = t.alias; server = s; kind = t.kind }))) o) h.server_is
 
+clock_read : (line : List ℕ) (moment : ℕ) → IsClockLine line moment → line_of line ≡ Some (Clock moment)
+unfolding line_of_words clock_line
+clock_read line moment h =
+    ap (λ (ws : List (List ℕ)). line_of_words ws) h.words
+    ∙ ap (λ (o : Option ℕ). option_and_then (λ m. Some (Clock m)) o) h.moment_is
+
 -- words of a command are no `start`
 played : (words : List (List ℕ)) (command : Command) (n : ℕ) → IsCommand words command n → line_of_words words ≡ play_line (command_of words)
 unfolding line_of_words
 played words (Planned name given avoid expected timeout allow_cross_cell) n h = subst (λ (ws : List (List ℕ)). line_of_words ws ≡ play_line (command_of ws)) (sym h.0.words_are) refl
 played words (Emergency name given ignored expected timeout prevent_cross_cell) n h = subst (λ (ws : List (List ℕ)). line_of_words ws ≡ play_line (command_of ws)) (sym h.0.words_are) refl
 played words (External a) n h = subst (λ (ws : List (List ℕ)). line_of_words ws ≡ play_line (command_of ws)) (sym h.0.words_are) refl
+played words Vtorc n h = subst (λ (ws : List (List ℕ)). line_of_words ws ≡ play_line (command_of ws)) (sym h.0) refl
 played words (Write None) n h = subst (λ (ws : List (List ℕ)). line_of_words ws ≡ play_line (command_of ws)) (sym h.words_are) refl
 played words (Write (Some a)) n h = subst (λ (ws : List (List ℕ)). line_of_words ws ≡ play_line (command_of ws)) (sym h.words_are) refl
 played words (Show a) n h = subst (λ (ws : List (List ℕ)). line_of_words ws ≡ play_line (command_of ws)) (sym h.0.words_are) refl
@@ -193,6 +200,7 @@ tick_read line n h =
 pub of_says : (line : List ℕ) (x : Line) → Says line x → line_of line ≡ Some x
 of_says line (Shard name policy) h = shard_read line name policy h
 of_says line (Tablet t) h = tablet_read line t h
+of_says line (Clock moment) h = clock_read line moment h
 of_says line (Act (Play command n)) h = play_read line command n h
 of_says line (Act (Start name command)) h = start_read line name command h
 of_says line (Act (Turn name pumps)) h = turn_read line name pumps h

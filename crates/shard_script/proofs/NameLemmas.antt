@@ -10,7 +10,8 @@ use Rattle.std.proofs.lemmas.List.Elements.{All-nil, All-cons, All-head, All-tai
 use Rattle.std.proofs.lemmas.Map.Made.{is_member-Decides}
 use Rattle.std.proofs.lemmas.Slice.Eq.{bytes_eq-Decides}
 use Rattle.shard_script.specs.declared.script.Action.{Action}
-use Rattle.shard_script.specs.Names.{IsName, is_name_byte, begins_with_letter, is_taken, name_reading, has_name, started_by, started, NamesDiffer, IsKnown, AreKnown}
+use Rattle.shard_script.specs.Names.{has_name, started_by, started, NamesDiffer, IsKnown, AreKnown}
+use Rattle.script_commands.specs.Words.{IsName, is_name_byte, begins_with_letter, is_taken, name_reading}
 use Rattle.script_commands.proofs.OptionLemmas.{only_if_some, and_both, not_true}
 use Rattle.shard_script.proofs.TabletsInOrder.{or_false}
 

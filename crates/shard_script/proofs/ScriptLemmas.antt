@@ -15,30 +15,34 @@ use Rattle.shard_names.specs.Tablets.{AreTablets}
 use Rattle.durability.specs.declared.policy.Durability.{Durability}
 use Rattle.durability.specs.declared.policy.Durability.TheVariants as policies
 use Rattle.shard_calls.specs.declared.command.Command.{Command}
-use Rattle.shard_calls.specs.declared.command.Command.TheVariants.{Planned, Emergency, External, Write, Show, GetShard, GetTablets}
+use Rattle.shard_calls.specs.declared.command.Command.TheVariants.{Planned, Emergency, External, Vtorc, Write, Show, GetShard, GetTablets}
 use Rattle.shard_script.specs.declared.line.Line.{Line}
-use Rattle.shard_script.specs.declared.line.Line.TheVariants.{Shard, Tablet, Act}
+use Rattle.shard_script.specs.declared.line.Line.TheVariants.{Shard, Tablet, Clock, Act}
 use Rattle.shard_script.specs.declared.script.Action.{Action}
 use Rattle.shard_script.specs.declared.script.Action.TheVariants as actions
 use Rattle.shard_script.specs.declared.script.Script.{Script}
 use Rattle.shard_script.specs.declared.script.ScriptFault.{ScriptFault}
-use Rattle.shard_script.specs.Names.{IsName, has_name, started_by, started, NamesDiffer, IsKnown, AreKnown}
+use Rattle.shard_script.specs.Names.{has_name, started_by, started, NamesDiffer, IsKnown, AreKnown}
 use Rattle.shard_script.specs.Aliases.{NamesDeclared, are_ends}
-use Rattle.shard_script.specs.Lines.{words_of, is_script_byte, say_nothing, line_of}
+use Rattle.shard_script.specs.Lines.{words_of, is_plain, say_nothing, line_of}
+use Rattle.script_commands.specs.Words.{IsName}
 use Rattle.script_commands.specs.Grammar.{IsCommand}
 use Rattle.shard_script.specs.Grammar.{IsActionLine, Says, HasScriptBytes}
-use Rattle.shard_script.specs.Script.{Gives, Fits, FitsShard, IsInTime, read_on, read_lines, with_bytes, with_words, reading, admits, admits_command, admits_name, admits_action, with_line, has_alias, has_server, all_declared, in_place, is_shard, empty_script, fault_behind, lines_of, ended_lines, first_bytes}
+use Rattle.shard_script.specs.Script.{Fits, FitsShard, IsInTime, read_on, read_lines, with_bytes, with_words, reading, admits, admits_command, admits_name, admits_action, with_line, has_alias, has_server, all_declared, in_place, is_shard, empty_script, fault_behind, lines_of, ended_lines, first_bytes}
 use Rattle.script_commands.proofs.OptionLemmas.{and_both, not_true}
 use Rattle.shard_script.proofs.NameLemmas.{started_more, known_more, differ_more, known_is}
+use Rattle.script_faults.specs.declared.fault.Fault.{Fault}
+use Rattle.shard_script.specs.Faults.{Gives}
 use Rattle.script_commands.proofs.CommandLemmas.{in_time}
+use Rattle.script_commands.proofs.MomentLemmas.{moment_bound}
 use Rattle.shard_script.proofs.LineLemmas.{says_of}
 use Rattle.shard_script.proofs.DeclaredLemmas.{names_declared}
 use Rattle.shard_script.proofs.TabletsInOrder.{length-in_place, rises-in_place, apart-in_place}
 
 -- a line past the most that there may be
-pub past_most : (place : ℕ) (s : Script) (ls : List (List ℕ)) → 1000 < place → 0 < length ls → read_on place s ls ≡ Err place
+pub past_most : (place : ℕ) (s : Script) (ls : List (List ℕ)) → 20000 < place → 0 < length ls → read_on place s ls ≡ Err place
 past_most place s [] far some = absurd (omega arith)
-past_most place s (l ∷ ls) far some = let e : ltb 1000 place ≡ true = grind (arith, nat_tests) in rw e refl
+past_most place s (l ∷ ls) far some = let e : ltb 20000 place ≡ true = grind (arith, nat_tests) in rw e refl
 
 -- ---- what has been read so far fits
 
@@ -47,6 +51,7 @@ record SoFar (place : ℕ) (s : Script) : Type 0 where
   few_tablets : length s.tablets ≤ 32
   named : s.shard ≡ None → (s.tablets ≡ []) × (s.actions ≡ [])
   unnamed : s.shard ≡ None → s.policy ≡ policies.None
+  clock : (m : ℕ) → s.clock ≡ Some m → m < 221876928000000
   actions : All (FitsShard s.shard) s.actions
   in_time : All IsInTime s.actions
   few : length s.actions < place
@@ -62,7 +67,8 @@ CountedAction : Action → Type 0
 CountedAction (actions.Play (Planned name given avoid expected timeout allow_cross_cell) n) = n ≡ 1
 CountedAction (actions.Play (Emergency name given ignored expected timeout prevent_cross_cell) n) = n ≡ 1
 CountedAction (actions.Play (External a) n) = n ≡ 1
-CountedAction (actions.Play (Write to) n) = (1 ≤ n) × (n ≤ 100)
+CountedAction (actions.Play Vtorc n) = n ≡ 1
+CountedAction (actions.Play (Write to) n) = (1 ≤ n) × (n ≤ 10000)
 CountedAction (actions.Play (Show a) n) = n ≡ 1
 CountedAction (actions.Play (GetShard name) n) = n ≡ 1
 CountedAction (actions.Play (GetTablets name) n) = n ≡ 1
@@ -83,6 +89,7 @@ CountedAction (actions.Tick ms) = ms ≤ 86400000
 Counted : Line → Type 0
 Counted (Shard name policy) = ⊤
 Counted (Tablet t) = ⊤
+Counted (Clock moment) = moment < 221876928000000
 Counted (Act x) = CountedAction x × IsInTime x
 
 counted_action : (line : List ℕ) (x : Action) → IsActionLine line x → CountedAction x
@@ -90,8 +97,9 @@ unfolding CountedAction
 counted_action line (actions.Play (Planned name given avoid expected timeout allow_cross_cell) n) h = h.1
 counted_action line (actions.Play (Emergency name given ignored expected timeout prevent_cross_cell) n) h = h.1
 counted_action line (actions.Play (External a) n) h = h.1
-counted_action line (actions.Play (Write None) n) h = (h.from_one, h.to_hundred)
-counted_action line (actions.Play (Write (Some a)) n) h = (h.from_one, h.to_hundred)
+counted_action line (actions.Play Vtorc n) h = h.1
+counted_action line (actions.Play (Write None) n) h = (h.from_one, h.to_ten_thousand)
+counted_action line (actions.Play (Write (Some a)) n) h = (h.from_one, h.to_ten_thousand)
 counted_action line (actions.Play (Show a) n) h = h.1
 counted_action line (actions.Play (GetShard name) n) h = h.1
 counted_action line (actions.Play (GetTablets name) n) h = h.1
@@ -129,6 +137,7 @@ counted : (line : List ℕ) (x : Line) → Says line x → Counted x
 unfolding Counted
 counted line (Shard name policy) h = tt
 counted line (Tablet t) h = tt
+counted line (Clock moment) h = moment_bound h.moment_text moment h.moment_is
 counted line (Act x) h = (counted_action line x h, action_in_time line x h)
 
 pub none_is : {A : Type 0} (o : Option A) → is_none o ≡ true → o ≡ None
@@ -155,6 +164,7 @@ one_shard place s name policy h ok =
       few_tablets = h.few_tablets;
       named = λ none. absurd (cc);
       unnamed = λ none. absurd (cc);
+      clock = h.clock;
       actions = subst (λ (xs : List Action). All (FitsShard (Some name)) xs) (sym empty.1) (All-nil (FitsShard (Some name)));
       in_time = h.in_time;
       few = omega (arith, h.few);
@@ -165,6 +175,24 @@ one_shard place s name policy h ok =
       names_differ = h.names_differ;
       known = h.known;
     }
+
+one_clock : (place : ℕ) (s : Script) (moment : ℕ) → moment < 221876928000000 → SoFar place s → admits s (Clock moment) ≡ true → SoFar (place + 1) (with_line s (Clock moment))
+one_clock place s moment within h ok = record {
+  tablets = h.tablets;
+  few_tablets = h.few_tablets;
+  named = h.named;
+  unnamed = h.unnamed;
+  clock = λ m is. subst (λ (k : ℕ). k < 221876928000000) (let e : Some moment ≡ Some m = is in cc) within;
+  actions = h.actions;
+  in_time = h.in_time;
+  few = omega (arith, h.few);
+  declared = h.declared;
+  starts = h.starts;
+  are_names = h.are_names;
+  few_names = h.few_names;
+  names_differ = h.names_differ;
+  known = h.known;
+}
 
 one_tablet : (place : ℕ) (s : Script) (t : TabletData) → SoFar place s → admits s (Tablet t) ≡ true → SoFar (place + 1) (with_line s (Tablet t))
 one_tablet place s t h ok =
@@ -183,6 +211,7 @@ one_tablet place s t h ok =
       few_tablets = omega (arith, few, length-in_place t s.tablets);
       named = λ none. absurd (some_not s.shard p4.0 none);
       unnamed = h.unnamed;
+      clock = h.clock;
       actions = h.actions;
       in_time = h.in_time;
       few = omega (arith, h.few);
@@ -199,6 +228,7 @@ unfolding CountedAction
 fits_one s (actions.Play (External a) n) once ok = once
 fits_one s (actions.Play (Emergency name given ignored expected timeout prevent_cross_cell) n) once ok = (shard_is s.shard name ok, once)
 fits_one s (actions.Play (Planned name given avoid expected timeout allow_cross_cell) n) once ok = (shard_is s.shard name ok, once)
+fits_one s (actions.Play Vtorc n) once ok = once
 fits_one s (actions.Play (Write to) n) range ok = range
 fits_one s (actions.Play (Show a) n) once ok = once
 fits_one s (actions.Play (GetShard name) n) once ok = (shard_is s.shard name ok, once)
@@ -206,6 +236,7 @@ fits_one s (actions.Play (GetTablets name) n) once ok = (shard_is s.shard name o
 fits_one s (actions.Start name (External a)) named ok = tt
 fits_one s (actions.Start name (Emergency shard given ignored expected timeout prevent_cross_cell)) named ok = shard_is s.shard shard (and_both (is_shard s.shard shard) (admits_name s name) ok).0
 fits_one s (actions.Start name (Planned shard given avoid expected timeout allow_cross_cell)) named ok = shard_is s.shard shard (and_both (is_shard s.shard shard) (admits_name s name) ok).0
+fits_one s (actions.Start name Vtorc) named ok = tt
 fits_one s (actions.Start name (Write to)) named ok = tt
 fits_one s (actions.Start name (Show a)) named ok = tt
 fits_one s (actions.Start name (GetShard shard)) named ok = shard_is s.shard shard (and_both (is_shard s.shard shard) (admits_name s name) ok).0
@@ -296,6 +327,7 @@ one_action place s x count time h ok =
       few_tablets = h.few_tablets;
       named = λ none. absurd (some_not s.shard tests.0 none);
       unnamed = h.unnamed;
+      clock = h.clock;
       actions = All-append (FitsShard s.shard) s.actions (x ∷ []) h.actions (All-cons (FitsShard s.shard) x [] (fits_one s x count tests.1) (All-nil (FitsShard s.shard)));
       in_time = All-append IsInTime s.actions (x ∷ []) h.in_time (All-cons IsInTime x [] time (All-nil IsInTime));
       few = omega (arith, h.few, length-append s.actions (x ∷ []));
@@ -311,6 +343,7 @@ one_line : (place : ℕ) (s : Script) (line : Line) → Counted line → SoFar p
 unfolding Counted
 one_line place s (Shard name policy) count h ok = one_shard place s name policy h ok
 one_line place s (Tablet t) count h ok = one_tablet place s t h ok
+one_line place s (Clock moment) count h ok = one_clock place s moment count h ok
 one_line place s (Act x) count h ok = one_action place s x count.0 count.1 h ok
 
 -- a line that was added may stand there
@@ -328,9 +361,9 @@ added_by s t true true o got = (refl, ((λ is. let e : Some s ≡ Some t = got i
 added_by s t true false o got = (refl, ((λ is. absurd (false≢true is)), (λ is. got)))
 added_by s t false c o got = absurd (cc)
 
-added : (s t : Script) (bytes : List ℕ) → with_bytes s bytes ≡ Some t → (list_all is_script_byte bytes ≡ true) × ((say_nothing (words_of bytes) ≡ true → s ≡ t) × (say_nothing (words_of bytes) ≡ false → with_words s (words_of bytes) ≡ Some t))
+added : (s t : Script) (bytes : List ℕ) → with_bytes s bytes ≡ Some t → (is_plain bytes ≡ true) × ((say_nothing (words_of bytes) ≡ true → s ≡ t) × (say_nothing (words_of bytes) ≡ false → with_words s (words_of bytes) ≡ Some t))
 unfolding with_bytes
-added s t bytes got = added_by s t (list_all is_script_byte bytes) (say_nothing (words_of bytes)) (with_words s (words_of bytes)) got
+added s t bytes got = added_by s t (is_plain bytes) (say_nothing (words_of bytes)) (with_words s (words_of bytes)) got
 
 pub bytes_of_added : (s t : Script) (bytes : List ℕ) → with_bytes s bytes ≡ Some t → HasScriptBytes bytes
 bytes_of_added s t bytes got = (added s t bytes got).0
@@ -350,6 +383,7 @@ passed place s h = record {
   few_tablets = h.few_tablets;
   named = h.named;
   unnamed = h.unnamed;
+  clock = h.clock;
   actions = h.actions;
   in_time = h.in_time;
   few = omega (arith, h.few);
@@ -370,16 +404,16 @@ one_more place s t bytes h got = by_test (say_nothing (words_of bytes)) refl
         let e = line_with_bytes s t bytes is got in
         subst (λ (x : Script). SoFar (place + 1) x) e.3 (one_line place s e.0 (counted bytes e.0 (says_of bytes e.0 e.1)) h e.2)
 
-on_more : (place : ℕ) (s t : Script) (l : List ℕ) (ls : List (List ℕ)) (b : Bool) (o : Option Script) → ltb 1000 place ≡ b → with_bytes s l ≡ o → SoFar place s → (cond b (Err place) (elim o [ None ↦ Err place | Some u ↦ read_on (place + 1) u ls ])) ≡ Ok t → ((u : Script) → SoFar (place + 1) u → place + 1 ≤ 1001 → read_on (place + 1) u ls ≡ Ok t → Fits t) → Fits t
+on_more : (place : ℕ) (s t : Script) (l : List ℕ) (ls : List (List ℕ)) (b : Bool) (o : Option Script) → ltb 20000 place ≡ b → with_bytes s l ≡ o → SoFar place s → (cond b (Err place) (elim o [ None ↦ Err place | Some u ↦ read_on (place + 1) u ls ])) ≡ Ok t → ((u : Script) → SoFar (place + 1) u → place + 1 ≤ 20001 → read_on (place + 1) u ls ≡ Ok t → Fits t) → Fits t
 on_more place s t l ls true o past with h got rest = absurd (cc)
 on_more place s t l ls false None past with h got rest = absurd (cc)
-on_more place s t l ls false (Some u) past with h got rest = rest u (one_more place s u l h with) (omega (arith, ltb-false 1000 place past)) got
+on_more place s t l ls false (Some u) past with h got rest = rest u (one_more place s u l h with) (omega (arith, ltb-false 20000 place past)) got
 
-fits_on : (place : ℕ) (s t : Script) (ls : List (List ℕ)) → SoFar place s → place ≤ 1001 → read_on place s ls ≡ Ok t → Fits t
+fits_on : (place : ℕ) (s t : Script) (ls : List (List ℕ)) → SoFar place s → place ≤ 20001 → read_on place s ls ≡ Ok t → Fits t
 fits_on place s t [] h le got =
     let same : s ≡ t = (let e : Ok s ≡ Ok t = got in cc) in
-    subst (λ (x : Script). Fits x) same (record { tablets = h.tablets; few_tablets = h.few_tablets; named = h.named; unnamed = h.unnamed; actions = h.actions; in_time = h.in_time; few_actions = omega (arith, h.few); declared = h.declared; starts = h.starts; are_names = h.are_names; few_names = h.few_names; names_differ = h.names_differ; known = h.known })
-fits_on place s t (l ∷ ls) h le got = on_more place s t l ls (ltb 1000 place) (with_bytes s l) refl refl h got (λ u k less more. fits_on (place + 1) u t ls k less more)
+    subst (λ (x : Script). Fits x) same (record { tablets = h.tablets; few_tablets = h.few_tablets; named = h.named; unnamed = h.unnamed; clock = h.clock; actions = h.actions; in_time = h.in_time; few_actions = omega (arith, h.few); declared = h.declared; starts = h.starts; are_names = h.are_names; few_names = h.few_names; names_differ = h.names_differ; known = h.known })
+fits_on place s t (l ∷ ls) h le got = on_more place s t l ls (ltb 20000 place) (with_bytes s l) refl refl h got (λ u k less more. fits_on (place + 1) u t ls k less more)
 
 opening : SoFar 1 empty_script
 opening = record {
@@ -387,6 +421,7 @@ opening = record {
   few_tablets = omega arith;
   named = λ none. (refl, refl);
   unnamed = λ none. refl;
+  clock = λ m is. absurd (cc);
   actions = All-nil (FitsShard None);
   in_time = All-nil IsInTime;
   few = omega arith;
@@ -407,17 +442,17 @@ fault_is : (lines : List (List ℕ)) (r : Result Script ℕ) (t : Script) → fa
 fault_is lines (Ok s) t h = absurd (cc)
 fault_is lines (Err place) t h = absurd (cc)
 
-pub lines_read : (text : List ℕ) (s : Script) → reading text ≡ Ok s → (length text ≤ 65536) × (read_lines (lines_of text) ≡ Ok s)
+pub lines_read : (text : List ℕ) (s : Script) → reading text ≡ Ok s → (length text ≤ 1048576) × (read_lines (lines_of text) ≡ Ok s)
 unfolding reading
-lines_read text s h = by_test (nat_le (length text) 65536) refl h
+lines_read text s h = by_test (nat_le (length text) 1048576) refl h
   where
-    by_test : (b : Bool) → nat_le (length text) 65536 ≡ b → cond b (read_lines (lines_of text)) (fault_behind (ended_lines (first_bytes text)) (read_lines (ended_lines (first_bytes text)))) ≡ Ok s → (length text ≤ 65536) × (read_lines (lines_of text) ≡ Ok s)
+    by_test : (b : Bool) → nat_le (length text) 1048576 ≡ b → cond b (read_lines (lines_of text)) (fault_behind (ended_lines (first_bytes text)) (read_lines (ended_lines (first_bytes text)))) ≡ Ok s → (length text ≤ 1048576) × (read_lines (lines_of text) ≡ Ok s)
     by_test true is got = (grind (arith, nat_tests), got)
     by_test false is got = absurd (fault_is (ended_lines (first_bytes text)) (read_lines (ended_lines (first_bytes text))) s got)
 
 pub fits_from : (text : List ℕ) (s : Script) → reading text ≡ Ok s → Fits s
 fits_from text s is = fits_lines (lines_of text) s (lines_read text s is).1
 
-pub gives_fits : (text : List ℕ) (r : Result Script ScriptFault) → Gives r (reading text) → IfOk r Fits
-gives_fits text (Ok s) h = fits_from text s h
-gives_fits text (Err e) h = tt
+pub gives_fits : (text : List ℕ) (fault : Fault) (r : Result Script ScriptFault) → Gives r (reading text) fault → IfOk r Fits
+gives_fits text fault (Ok s) h = fits_from text s h
+gives_fits text fault (Err e) h = tt

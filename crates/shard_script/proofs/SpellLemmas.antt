@@ -1,6 +1,6 @@
 -- What the grammar spells is read, and faults stand where it has none.
-use Rattle.std.proofs.Common.{◌≡◌, ◌≢◌, ℕ, suc, ◌+◌, ◌<◌, ◌≤◌, List, [], ◌∷◌, ◌++◌, Bool, true, false, cond, not, ◌&&◌, Option, Some, None, Ok, length, refl, sym, ap, subst, ◌∙◌, arith}
-use Rattle.std.specs.Prelude.{All, is_some, ◌==◌, nat_lt, nat_le}
+use Rattle.std.proofs.Common.{◌≡◌, ◌≢◌, ◌⊎◌, inl, inr, ℕ, suc, ◌+◌, ◌<◌, ◌≤◌, List, [], ◌∷◌, ◌++◌, Bool, true, false, cond, not, ◌&&◌, Option, Some, None, Ok, length, refl, sym, ap, subst, ◌∙◌, arith}
+use Rattle.std.specs.Prelude.{All, is_some, is_none, ◌==◌, nat_lt, nat_le}
 use Rattle.std.specs.List.{AllZip}
 use Rattle.std.specs.Str.{bytes_eq}
 use Rattle.std.proofs.lemmas.Bool.Decides.{nat_tests}
@@ -13,9 +13,9 @@ use Rattle.shard_names.specs.declared.tablet.Tablet.{Tablet as TabletData}
 use Rattle.shard_names.specs.Tablets.{alias_eq, AliasesRise, ServersDiffer}
 use Rattle.shard_names.proofs.TabletLemmas.{alias_eq-Decides, both}
 use Rattle.shard_calls.specs.declared.command.Command.{Command}
-use Rattle.shard_calls.specs.declared.command.Command.TheVariants.{Planned, Emergency, External, Write, Show, GetShard, GetTablets}
+use Rattle.shard_calls.specs.declared.command.Command.TheVariants.{Planned, Emergency, External, Vtorc, Write, Show, GetShard, GetTablets}
 use Rattle.shard_script.specs.declared.line.Line.{Line}
-use Rattle.shard_script.specs.declared.line.Line.TheVariants.{Shard, Tablet, Act}
+use Rattle.shard_script.specs.declared.line.Line.TheVariants.{Shard, Tablet, Clock, Act}
 use Rattle.shard_script.specs.declared.script.Action.{Action}
 use Rattle.shard_script.specs.declared.script.Action.TheVariants as actions
 use Rattle.shard_script.specs.declared.script.Script.{Script}
@@ -24,14 +24,14 @@ use Rattle.shard_script.specs.Aliases.{NamesDeclared}
 use Rattle.shard_script.specs.Lines.{words_of, say_nothing}
 use Rattle.shard_script.specs.Script.{read_on, read_lines, with_bytes, with_words, admits, admits_command, admits_name, admits_action, all_declared, with_line, has_alias, has_server, is_shard, shard_eq, in_place, empty_script, reading, lines_of, ended_lines, first_bytes, fault_behind}
 use Rattle.script_commands.specs.Grammar.{IsCommand}
-use Rattle.shard_script.specs.Grammar.{IsTabletLine, IsActionLine, Says, AliasesDiffer, IsCommandOf, IsOfShard, IsShardScript, IsScript, told_lines, HasScriptBytes, Spell, Spells, ReadsAsSpelled}
+use Rattle.shard_script.specs.Grammar.{IsTabletLine, IsClockLine, IsActionLine, Says, AliasesDiffer, IsCommandOf, IsOfShard, AreDeclarations, IsShardScript, IsScript, told_lines, HasScriptBytes, Spell, Spells, ReadsAsSpelled}
 use Rattle.shard_script.specs.Grammar.IsScript.{is_empty, is_shard_script}
 use Rattle.shard_script.proofs.NameLemmas.{not_same, or_none, not_before, is_known}
 use Rattle.shard_script.proofs.LineReads.{of_says}
 use Rattle.shard_script.proofs.TabletsInOrder.{any-in_place, rises_once, length-in_place}
 use Rattle.shard_script.proofs.DeclaredLemmas.{are_declared}
 use Rattle.shard_script.proofs.ScriptLemmas.{fits_lines, lines_read}
-use Rattle.shard_script.proofs.GrammarLemmas.{placed, IsNew, permuted_all, spell_of}
+use Rattle.shard_script.proofs.GrammarLemmas.{clock_by, clock_alone, placed, IsNew, permuted_all, spell_of}
 use Rattle.shard_script.proofs.ToldLemmas.{Tells, step_on, all_on, fewer_told, All-split}
 
 -- ---- one line
@@ -41,6 +41,7 @@ command_tells : (words : List (List ℕ)) (command : Command) (n : ℕ) → IsCo
 command_tells words (Planned name given avoid expected timeout allow_cross_cell) n h = ap (λ (ws : List (List ℕ)). say_nothing ws) h.0.words_are
 command_tells words (Emergency name given ignored expected timeout prevent_cross_cell) n h = ap (λ (ws : List (List ℕ)). say_nothing ws) h.0.words_are
 command_tells words (External a) n h = ap (λ (ws : List (List ℕ)). say_nothing ws) h.0.words_are
+command_tells words Vtorc n h = ap (λ (ws : List (List ℕ)). say_nothing ws) h.0
 command_tells words (Write None) n h = ap (λ (ws : List (List ℕ)). say_nothing ws) h.words_are
 command_tells words (Write (Some a)) n h = ap (λ (ws : List (List ℕ)). say_nothing ws) h.words_are
 command_tells words (Show a) n h = ap (λ (ws : List (List ℕ)). say_nothing ws) h.0.words_are
@@ -66,6 +67,7 @@ action_tells l (actions.Tick ms) h = ap (λ (ws : List (List ℕ)). say_nothing 
 says_tells : (l : List ℕ) (line : Line) → Says l line → Tells l
 says_tells l (Shard name policy) h = ap (λ (ws : List (List ℕ)). say_nothing ws) h.words
 says_tells l (Tablet t) h = ap (λ (ws : List (List ℕ)). say_nothing ws) h.words
+says_tells l (Clock moment) h = ap (λ (ws : List (List ℕ)). say_nothing ws) h.words
 says_tells l (Act x) h = action_tells l x h
 
 with_words_is : (s : Script) (l : List ℕ) (line : Line) → Says l line → admits s line ≡ true → with_words s (words_of l) ≡ Some (with_line s line)
@@ -100,19 +102,95 @@ tablet_admitted s name t named none few new =
     (ap (λ (b : Bool). not b) new.alias))
     (ap (λ (b : Bool). not b) new.server)
 
-tablets_on : (place : ℕ) (s : Script) (name : ShardName) (tl al : List (List ℕ)) (ds : List TabletData) → AllZip IsTabletLine tl ds → All HasScriptBytes tl → s.shard ≡ Some name → s.actions ≡ [] → length s.tablets + length ds ≤ 32 → All (IsNew s.tablets) ds → AliasesDiffer ds → ServersDiffer ds → place + length tl ≤ 1001 → read_on place s (tl ++ al) ≡ read_on (place + length tl) (record s { tablets = placed s.tablets ds }) al
-tablets_on place s name [] al [] said bytes named none few new aliases servers lines = let e : place ≡ place + 0 = omega arith in ap (λ (n : ℕ). read_on n s al) e
-tablets_on place s name [] al (d ∷ ds) said bytes named none few new aliases servers lines = absurd said
-tablets_on place s name (l ∷ tl) al [] said bytes named none few new aliases servers lines = absurd said
-tablets_on place s name (l ∷ tl) al (d ∷ ds) said bytes named none few new aliases servers lines =
+-- how a script stands behind declarations
+abbrev declared_on : Script → List TabletData → Option ℕ → Script
+declared_on s ds clock = record s { tablets = placed s.tablets ds; clock = clock_by s.clock clock }
+
+-- what has to hold before declarations are read
+record Ready (place : ℕ) (s : Script) (name : ShardName) (dl : List (List ℕ)) (ds : List TabletData) (clock : Option ℕ) : Type 0 where
+  bytes : All HasScriptBytes dl
+  named : s.shard ≡ Some name
+  none : s.actions ≡ []
+  few : length s.tablets + length ds ≤ 32
+  new : All (IsNew s.tablets) ds
+  aliases : AliasesDiffer ds
+  servers : ServersDiffer ds
+  once : (m : ℕ) → clock ≡ Some m → s.clock ≡ None
+  lines : place + length dl ≤ 20001
+
+-- the reading of the lines behind declarations
+abbrev OnDeclared : Type 0
+OnDeclared = (place : ℕ) (s : Script) (name : ShardName) (dl al : List (List ℕ)) (ds : List TabletData) (clock : Option ℕ) → AreDeclarations dl ds clock → Ready place s name dl ds clock
+    → read_on place s (dl ++ al) ≡ read_on (place + length dl) (declared_on s ds clock) al
+
+none_declared : (place : ℕ) (s : Script) (al : List (List ℕ)) (ds : List TabletData) (clock : Option ℕ) → ds ≡ [] → clock ≡ None → read_on place s al ≡ read_on (place + 0) (declared_on s ds clock) al
+none_declared place s al ds clock none no_clock =
+    let e : place ≡ place + 0 = omega arith in
+    let same : s ≡ declared_on s ds clock = λ i. record s { tablets = placed s.tablets (sym none i); clock = clock_by s.clock (sym no_clock i) } in
+    λ i. read_on (e i) (same i) al
+
+tablet_declared : (place : ℕ) (s : Script) (name : ShardName) (l : List ℕ) (dl al : List (List ℕ)) (d : TabletData) (ds : List TabletData) (clock : Option ℕ) → IsTabletLine l d → Ready place s name (l ∷ dl) (d ∷ ds) clock
+    → (Ready (place + 1) (with_line s (Tablet d)) name dl ds clock → read_on (place + 1) (with_line s (Tablet d)) (dl ++ al) ≡ read_on ((place + 1) + length dl) (declared_on (with_line s (Tablet d)) ds clock) al)
+    → read_on place s (l ∷ (dl ++ al)) ≡ read_on (place + suc (length dl)) (declared_on s (d ∷ ds) clock) al
+tablet_declared place s name l dl al d ds clock says r rest =
     let u : Script = with_line s (Tablet d) in
-    let ok : admits s (Tablet d) ≡ true = tablet_admitted s name d named none (omega arith) (All-head (IsNew s.tablets) d ds new) in
-    let others : All (IsNew s.tablets) ds = All-tail (IsNew s.tablets) d ds new in
-    let after : All (IsNew (in_place d s.tablets)) ds = λ k x lt. new_after d s.tablets _ (others k x lt) (aliases.0 k x lt) (servers.0 k x lt) in
-    let count : (place + 1) + length tl ≡ place + suc (length tl) = omega arith in
-    step_on place s u l (tl ++ al) (omega arith) (added_is s l (Tablet d) (All-head HasScriptBytes l tl bytes) said.0 ok)
-    ∙ tablets_on (place + 1) u name tl al ds said.1 (All-tail HasScriptBytes l tl bytes) named none (omega (arith, few, length-in_place d s.tablets)) after aliases.1 servers.1 (omega arith)
-    ∙ ap (λ (n : ℕ). read_on n (record s { tablets = placed (in_place d s.tablets) ds }) al) count
+    let few = r.few in
+    let lines = r.lines in
+    let ok : admits s (Tablet d) ≡ true = tablet_admitted s name d r.named r.none (omega arith) (All-head (IsNew s.tablets) d ds r.new) in
+    let others : All (IsNew s.tablets) ds = All-tail (IsNew s.tablets) d ds r.new in
+    let count : (place + 1) + length dl ≡ place + suc (length dl) = omega arith in
+    step_on place s u l (dl ++ al) (omega arith) (added_is s l (Tablet d) (All-head HasScriptBytes l dl r.bytes) says ok)
+    ∙ rest (record {
+      bytes = All-tail HasScriptBytes l dl r.bytes;
+      named = r.named;
+      none = r.none;
+      few = omega (arith, few, length-in_place d s.tablets);
+      new = λ k x lt. new_after d s.tablets _ (others k x lt) (r.aliases.0 k x lt) (r.servers.0 k x lt);
+      aliases = r.aliases.1;
+      servers = r.servers.1;
+      once = r.once;
+      lines = omega arith;
+    })
+    ∙ ap (λ (n : ℕ). read_on n (declared_on s (d ∷ ds) clock) al) count
+
+clock_admitted : (s : Script) (name : ShardName) (m : ℕ) → s.shard ≡ Some name → s.actions ≡ [] → s.clock ≡ None → admits s (Clock m) ≡ true
+clock_admitted s name m named none once =
+    both (is_some s.shard && (length s.actions == 0)) (is_none s.clock)
+    (both (is_some s.shard) (length s.actions == 0) (ap (λ (o : Option ShardName). is_some o) named) (ap (λ (xs : List Action). length xs == 0) none))
+    (ap (λ (o : Option ℕ). is_none o) once)
+
+clock_declared : (place : ℕ) (s : Script) (name : ShardName) (l : List ℕ) (dl al : List (List ℕ)) (ds : List TabletData) (m : ℕ) → IsClockLine l m → Ready place s name (l ∷ dl) ds (Some m)
+    → (Ready (place + 1) (with_line s (Clock m)) name dl ds None → read_on (place + 1) (with_line s (Clock m)) (dl ++ al) ≡ read_on ((place + 1) + length dl) (declared_on (with_line s (Clock m)) ds None) al)
+    → read_on place s (l ∷ (dl ++ al)) ≡ read_on (place + suc (length dl)) (declared_on s ds (Some m)) al
+clock_declared place s name l dl al ds m says r rest =
+    let u : Script = with_line s (Clock m) in
+    let lines = r.lines in
+    let ok : admits s (Clock m) ≡ true = clock_admitted s name m r.named r.none (r.once m refl) in
+    let count : (place + 1) + length dl ≡ place + suc (length dl) = omega arith in
+    step_on place s u l (dl ++ al) (omega arith) (added_is s l (Clock m) (All-head HasScriptBytes l dl r.bytes) says ok)
+    ∙ rest (record {
+      bytes = All-tail HasScriptBytes l dl r.bytes;
+      named = r.named;
+      none = r.none;
+      few = r.few;
+      new = r.new;
+      aliases = r.aliases;
+      servers = r.servers;
+      once = λ k is. absurd (cc);
+      lines = omega arith;
+    })
+    ∙ ap (λ (n : ℕ). read_on n (declared_on s ds (Some m)) al) count
+
+declarations_on : OnDeclared
+declarations_on place s name [] al ds clock (none, no_clock) r = none_declared place s al ds clock none no_clock
+declarations_on place s name (l ∷ dl) al ds clock (inl t) r =
+    let whole : Ready place s name (l ∷ dl) (t.tablet ∷ t.others) clock = subst (λ (xs : List TabletData). Ready place s name (l ∷ dl) xs clock) t.tablets_are r in
+    tablet_declared place s name l dl al t.tablet t.others clock t.says whole (λ k. declarations_on (place + 1) (with_line s (Tablet t.tablet)) name dl al t.others clock t.behind k)
+    ∙ ap (λ (xs : List TabletData). read_on (place + suc (length dl)) (declared_on s xs clock) al) (sym t.tablets_are)
+declarations_on place s name (l ∷ dl) al ds clock (inr c) r =
+    let whole : Ready place s name (l ∷ dl) ds (Some c.moment) = subst (λ (o : Option ℕ). Ready place s name (l ∷ dl) ds o) c.clock_is r in
+    clock_declared place s name l dl al ds c.moment c.says whole (λ k. declarations_on (place + 1) (with_line s (Clock c.moment)) name dl al ds None c.behind k)
+    ∙ ap (λ (o : Option ℕ). read_on (place + suc (length dl)) (declared_on s ds o) al) (sym c.clock_is)
 
 -- ---- the actions' lines
 
@@ -126,6 +204,7 @@ command_admitted : (s : Script) (name : ShardName) (c : Command) → s.shard ≡
 command_admitted s name (Planned m given avoid expected timeout allow_cross_cell) named of = shard_admitted s name m named of
 command_admitted s name (Emergency m given ignored expected timeout prevent_cross_cell) named of = shard_admitted s name m named of
 command_admitted s name (External a) named of = refl
+command_admitted s name Vtorc named of = refl
 command_admitted s name (Write to) named of = refl
 command_admitted s name (Show a) named of = refl
 command_admitted s name (GetShard m) named of = shard_admitted s name m named of
@@ -154,7 +233,7 @@ action_allowed s name (actions.Repeat message) ns named of known differ few = re
 action_allowed s name actions.Lapse ns named of known differ few = refl
 action_allowed s name (actions.Tick ms) ns named of known differ few = refl
 
-actions_on : (place : ℕ) (s : Script) (name : ShardName) (al : List (List ℕ)) (xs : List Action) → AllZip IsActionLine al xs → All HasScriptBytes al → s.shard ≡ Some name → All (IsOfShard name) xs → All (NamesDeclared s.tablets) xs → AreKnown s.names xs → NamesDiffer (s.names ++ started xs) → length (s.names ++ started xs) ≤ 16 → place + length al ≤ 1001 → read_on place s al ≡ Ok (record s { names = s.names ++ started xs; actions = s.actions ++ xs })
+actions_on : (place : ℕ) (s : Script) (name : ShardName) (al : List (List ℕ)) (xs : List Action) → AllZip IsActionLine al xs → All HasScriptBytes al → s.shard ≡ Some name → All (IsOfShard name) xs → All (NamesDeclared s.tablets) xs → AreKnown s.names xs → NamesDiffer (s.names ++ started xs) → length (s.names ++ started xs) ≤ 16 → place + length al ≤ 20001 → read_on place s al ≡ Ok (record s { names = s.names ++ started xs; actions = s.actions ++ xs })
 actions_on place s name [] [] said bytes named of declared known differ few lines =
     let names : s.names ≡ s.names ++ [] = sym (append-nil s.names) in
     let done : s.actions ≡ s.actions ++ [] = sym (append-nil s.actions) in
@@ -174,32 +253,43 @@ actions_on place s name (l ∷ al) (x ∷ xs) said bytes named of declared known
 
 -- ---- all lines
 
-shard_read : (lines : List (List ℕ)) (s : Script) → length lines ≤ 1000 → All HasScriptBytes lines → IsShardScript lines s → read_lines lines ≡ Ok s
+shard_read : (lines : List (List ℕ)) (s : Script) → length lines ≤ 20000 → All HasScriptBytes lines → IsShardScript lines s → read_lines lines ≡ Ok s
 shard_read lines s few bytes g =
-    let all_bytes : All HasScriptBytes (g.first ∷ (g.tablet_lines ++ g.action_lines)) = subst (λ (ls : List (List ℕ)). All HasScriptBytes ls) g.split bytes in
-    let rest_bytes = All-split HasScriptBytes g.tablet_lines g.action_lines (All-tail HasScriptBytes g.first (g.tablet_lines ++ g.action_lines) all_bytes) in
+    let all_bytes : All HasScriptBytes (g.first ∷ (g.declaration_lines ++ g.action_lines)) = subst (λ (ls : List (List ℕ)). All HasScriptBytes ls) g.split bytes in
+    let rest_bytes = All-split HasScriptBytes g.declaration_lines g.action_lines (All-tail HasScriptBytes g.first (g.declaration_lines ++ g.action_lines) all_bytes) in
     let named : Script = with_line empty_script (Shard g.name s.policy) in
-    let size : length (g.tablet_lines ++ g.action_lines) ≡ length g.tablet_lines + length g.action_lines = length-append g.tablet_lines g.action_lines in
-    let all_lines : length lines ≡ suc (length (g.tablet_lines ++ g.action_lines)) = ap (λ (ls : List (List ℕ)). length ls) g.split in
-    let tablets : Script = record named { tablets = placed [] g.declared } in
-    let declared : (al : List (List ℕ)) → read_lines (g.first ∷ (g.tablet_lines ++ al)) ≡ read_on (2 + length g.tablet_lines) tablets al = λ al.
-    step_on 1 empty_script named g.first (g.tablet_lines ++ al) (omega arith) (added_is empty_script g.first (Shard g.name s.policy) (All-head HasScriptBytes g.first (g.tablet_lines ++ g.action_lines) all_bytes) g.says_shard refl)
-    ∙ tablets_on 2 named g.name g.tablet_lines al g.declared g.say_tablets rest_bytes.0 refl refl (omega (arith, g.few_tablets)) (λ k d lt. record { alias = refl; server = refl }) g.aliases_differ g.servers_differ (omega (arith, few, size, all_lines)) in
-    let rise : AliasesRise (placed [] g.declared) = (fits_lines (g.first ∷ (g.tablet_lines ++ [])) tablets (declared [])).tablets.in_order in
+    let size : length (g.declaration_lines ++ g.action_lines) ≡ length g.declaration_lines + length g.action_lines = length-append g.declaration_lines g.action_lines in
+    let all_lines : length lines ≡ suc (length (g.declaration_lines ++ g.action_lines)) = ap (λ (ls : List (List ℕ)). length ls) g.split in
+    let begun : Script = declared_on named g.declared s.clock in
+    let declared : (al : List (List ℕ)) → read_lines (g.first ∷ (g.declaration_lines ++ al)) ≡ read_on (2 + length g.declaration_lines) begun al = λ al.
+    step_on 1 empty_script named g.first (g.declaration_lines ++ al) (omega arith) (added_is empty_script g.first (Shard g.name s.policy) (All-head HasScriptBytes g.first (g.declaration_lines ++ g.action_lines) all_bytes) g.says_shard refl)
+    ∙ declarations_on 2 named g.name g.declaration_lines al g.declared s.clock g.are_declarations (record {
+      bytes = rest_bytes.0;
+      named = refl;
+      none = refl;
+      few = omega (arith, g.few_tablets);
+      new = λ k d lt. record { alias = refl; server = refl };
+      aliases = g.aliases_differ;
+      servers = g.servers_differ;
+      once = λ m is. refl;
+      lines = omega (arith, few, size, all_lines);
+    }) in
+    let rise : AliasesRise (placed [] g.declared) = (fits_lines (g.first ∷ (g.declaration_lines ++ [])) begun (declared [])).tablets.in_order in
     let here = permuted_all g.declared in
     let same : placed [] g.declared ≡ s.tablets = rises_once (placed [] g.declared) s.tablets rise g.in_order
     (λ P h. All-permutation P g.declared s.tablets g.tablets (All-permutation P (placed [] g.declared) g.declared (IsPermutation-sym g.declared (placed [] g.declared) here) h))
     (λ P h. All-permutation P g.declared (placed [] g.declared) here (All-permutation P s.tablets g.declared (IsPermutation-sym g.declared s.tablets g.tablets) h)) in
-    let got : read_lines lines ≡ Ok (record { shard = Some g.name; policy = s.policy; tablets = placed [] g.declared; names = started s.actions; actions = s.actions }) =
+    let got : read_lines lines ≡ Ok (record { shard = Some g.name; policy = s.policy; clock = clock_by None s.clock; tablets = placed [] g.declared; names = started s.actions; actions = s.actions }) =
     ap (λ (ls : List (List ℕ)). read_lines ls) g.split
     ∙ declared g.action_lines
-    ∙ actions_on (2 + length g.tablet_lines) tablets g.name g.action_lines s.actions g.say_actions rest_bytes.1 refl g.of_shard (subst (λ (ts : List TabletData). All (NamesDeclared ts) s.actions) (sym same) g.are_declared) g.known (subst NamesDiffer g.names g.names_differ) (subst (λ (ns : List (List ℕ)). length ns ≤ 16) g.names g.few_names) (omega (arith, few, size, all_lines)) in
+    ∙ actions_on (2 + length g.declaration_lines) begun g.name g.action_lines s.actions g.say_actions rest_bytes.1 refl g.of_shard (subst (λ (ts : List TabletData). All (NamesDeclared ts) s.actions) (sym same) g.are_declared) g.known (subst NamesDiffer g.names g.names_differ) (subst (λ (ns : List (List ℕ)). length ns ≤ 16) g.names g.few_names) (omega (arith, few, size, all_lines)) in
     let shard : Some g.name ≡ s.shard = sym g.shard in
     let names : started s.actions ≡ s.names = sym g.names in
-    let whole : record { shard = Some g.name; policy = s.policy; tablets = placed [] g.declared; names = started s.actions; actions = s.actions } ≡ s = λ i. record { shard = shard i; policy = s.policy; tablets = same i; names = names i; actions = s.actions } in
+    let clock : clock_by None s.clock ≡ s.clock = clock_alone s.clock in
+    let whole : record { shard = Some g.name; policy = s.policy; clock = clock_by None s.clock; tablets = placed [] g.declared; names = started s.actions; actions = s.actions } ≡ s = λ i. record { shard = shard i; policy = s.policy; clock = clock i; tablets = same i; names = names i; actions = s.actions } in
     got ∙ ap (λ (t : Script). Ok t) whole
 
-script_read : (lines : List (List ℕ)) (s : Script) → length lines ≤ 1000 → All HasScriptBytes lines → IsScript lines s → read_lines lines ≡ Ok s
+script_read : (lines : List (List ℕ)) (s : Script) → length lines ≤ 20000 → All HasScriptBytes lines → IsScript lines s → read_lines lines ≡ Ok s
 script_read lines s few bytes (is_empty none is) = ap (λ (ls : List (List ℕ)). read_lines ls) none ∙ ap (λ (t : Script). Ok t) (sym is)
 script_read lines s few bytes (is_shard_script g) = shard_read lines s few bytes g
 
@@ -216,7 +306,7 @@ reads_as_spelled text s = (
   (λ h. short_is text s h),
 )
   where
-    short_is : (text : List ℕ) (s : Script) → Spells text s → cond (nat_le (length text) 65536) (read_lines (lines_of text)) (fault_behind (ended_lines (first_bytes text)) (read_lines (ended_lines (first_bytes text)))) ≡ Ok s
+    short_is : (text : List ℕ) (s : Script) → Spells text s → cond (nat_le (length text) 1048576) (read_lines (lines_of text)) (fault_behind (ended_lines (first_bytes text)) (read_lines (ended_lines (first_bytes text)))) ≡ Ok s
     short_is text s h =
-        let short : nat_le (length text) 65536 ≡ true = (let few : length text ≤ 65536 = h.few_bytes in grind (arith, nat_tests)) in
+        let short : nat_le (length text) 1048576 ≡ true = (let few : length text ≤ 1048576 = h.few_bytes in grind (arith, nat_tests)) in
         ap (λ (b : Bool). cond b (read_lines (lines_of text)) (fault_behind (ended_lines (first_bytes text)) (read_lines (ended_lines (first_bytes text))))) short ∙ read_of (lines_of text) s h.lines

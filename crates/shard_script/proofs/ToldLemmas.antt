@@ -17,20 +17,20 @@ Tells l = say_nothing (words_of l) ≡ false
 pub record Step (place : ℕ) (s t : Script) (l : List ℕ) (ls : List (List ℕ)) : Type 0 where
   pub next : Script
   pub added : with_bytes s l ≡ Some next
-  pub room : place ≤ 1000
+  pub room : place ≤ 20000
   pub rest : read_on (place + 1) next ls ≡ Ok t
 
-step_by : (place : ℕ) (s t : Script) (l : List ℕ) (ls : List (List ℕ)) (b : Bool) (o : Option Script) → ltb 1000 place ≡ b → with_bytes s l ≡ o → (cond b (Err place) (elim o [ None ↦ Err place | Some u ↦ read_on (place + 1) u ls ])) ≡ Ok t → Step place s t l ls
+step_by : (place : ℕ) (s t : Script) (l : List ℕ) (ls : List (List ℕ)) (b : Bool) (o : Option Script) → ltb 20000 place ≡ b → with_bytes s l ≡ o → (cond b (Err place) (elim o [ None ↦ Err place | Some u ↦ read_on (place + 1) u ls ])) ≡ Ok t → Step place s t l ls
 step_by place s t l ls true o past with got = absurd (cc)
 step_by place s t l ls false None past with got = absurd (cc)
-step_by place s t l ls false (Some u) past with got = record { next = u; added = with; room = omega (arith, ltb-false 1000 place past); rest = got }
+step_by place s t l ls false (Some u) past with got = record { next = u; added = with; room = omega (arith, ltb-false 20000 place past); rest = got }
 
 pub step_of : (place : ℕ) (s t : Script) (l : List ℕ) (ls : List (List ℕ)) → read_on place s (l ∷ ls) ≡ Ok t → Step place s t l ls
-step_of place s t l ls got = step_by place s t l ls (ltb 1000 place) (with_bytes s l) refl refl got
+step_of place s t l ls got = step_by place s t l ls (ltb 20000 place) (with_bytes s l) refl refl got
 
-pub step_on : (place : ℕ) (s u : Script) (l : List ℕ) (ls : List (List ℕ)) → place ≤ 1000 → with_bytes s l ≡ Some u → read_on place s (l ∷ ls) ≡ read_on (place + 1) u ls
+pub step_on : (place : ℕ) (s u : Script) (l : List ℕ) (ls : List (List ℕ)) → place ≤ 20000 → with_bytes s l ≡ Some u → read_on place s (l ∷ ls) ≡ read_on (place + 1) u ls
 step_on place s u l ls le added =
-    let room : ltb 1000 place ≡ false = grind (arith, nat_tests) in
+    let room : ltb 20000 place ≡ false = grind (arith, nat_tests) in
     ap (λ (b : Bool). let r : Result Script ℕ = cond b (Err place) (elim (with_bytes s l) [ None ↦ Err place | Some t ↦ read_on (place + 1) t ls ]) in r) room
     ∙ ap (λ (o : Option Script). let r : Result Script ℕ = elim o [ None ↦ Err place | Some t ↦ read_on (place + 1) t ls ] in r) added
 
@@ -66,7 +66,7 @@ bytes_on place s t (l ∷ ls) got =
 
 -- ---- what is read of all lines is what is read of those that say something
 
-by_told : (s t : Script) (l : List ℕ) (ls : List (List ℕ)) (b : Bool) (q : ℕ) → say_nothing (words_of l) ≡ b → with_bytes s l ≡ Some t → q ≤ 1000 → (u : Script) → ((p : ℕ) → p ≤ q + 1 → read_on p t (told_lines ls) ≡ Ok u) → read_on q s (cond (not b) (l ∷ told_lines ls) (told_lines ls)) ≡ Ok u
+by_told : (s t : Script) (l : List ℕ) (ls : List (List ℕ)) (b : Bool) (q : ℕ) → say_nothing (words_of l) ≡ b → with_bytes s l ≡ Some t → q ≤ 20000 → (u : Script) → ((p : ℕ) → p ≤ q + 1 → read_on p t (told_lines ls) ≡ Ok u) → read_on q s (cond (not b) (l ∷ told_lines ls) (told_lines ls)) ≡ Ok u
 by_told s t l ls true q is added room u rest = subst (λ (x : Script). read_on q x (told_lines ls) ≡ Ok u) (sym (same_with s t l is added)) (rest q (omega arith))
 by_told s t l ls false q is added room u rest = step_on q s t l (told_lines ls) room added ∙ rest (q + 1) (omega arith)
 
@@ -84,7 +84,7 @@ passed_over s l is bytes =
     ap (λ (b : Bool). let r : Option Script = cond (not b) None (cond (say_nothing (words_of l)) (Some s) (with_words s (words_of l))) in r) bytes
     ∙ ap (λ (b : Bool). cond b (Some s) (with_words s (words_of l))) is
 
-by_all : (place q : ℕ) (s u : Script) (l : List ℕ) (ls : List (List ℕ)) (b : Bool) → say_nothing (words_of l) ≡ b → HasScriptBytes l → place ≤ 1000
+by_all : (place q : ℕ) (s u : Script) (l : List ℕ) (ls : List (List ℕ)) (b : Bool) → say_nothing (words_of l) ≡ b → HasScriptBytes l → place ≤ 20000
     → read_on q s (cond (not b) (l ∷ told_lines ls) (told_lines ls)) ≡ Ok u
     → ((p : ℕ) (t : Script) → read_on p t (told_lines ls) ≡ Ok u → read_on (place + 1) t ls ≡ Ok u) → read_on place s (l ∷ ls) ≡ Ok u
 by_all place q s u l ls true is bytes room got rest = step_on place s s l ls room (passed_over s l is bytes) ∙ rest q s got
@@ -92,7 +92,7 @@ by_all place q s u l ls false is bytes room got rest =
     let step = step_of q s u l (told_lines ls) got in
     step_on place s step.next l ls room step.added ∙ rest (q + 1) step.next step.rest
 
-pub all_on : (place q : ℕ) (s u : Script) (ls : List (List ℕ)) → place + length ls ≤ 1001 → All HasScriptBytes ls → read_on q s (told_lines ls) ≡ Ok u → read_on place s ls ≡ Ok u
+pub all_on : (place q : ℕ) (s u : Script) (ls : List (List ℕ)) → place + length ls ≤ 20001 → All HasScriptBytes ls → read_on q s (told_lines ls) ≡ Ok u → read_on place s ls ≡ Ok u
 all_on place q s u [] few bytes got = got
 all_on place q s u (l ∷ ls) few bytes got =
     by_all place q s u l ls (say_nothing (words_of l)) refl (All-head HasScriptBytes l ls bytes) (omega arith) got

@@ -4,7 +4,7 @@ use Rattle.std.specs.List.{Any}
 use Rattle.shard_names.specs.declared.alias.Alias.{Alias}
 use Rattle.shard_names.specs.declared.tablet.Tablet.{Tablet as TabletData}
 use Rattle.shard_calls.specs.declared.command.Command.{Command}
-use Rattle.shard_calls.specs.declared.command.Command.TheVariants.{Planned, Emergency, External, Write, Show, GetShard, GetTablets}
+use Rattle.shard_calls.specs.declared.command.Command.TheVariants.{Planned, Emergency, External, Vtorc, Write, Show, GetShard, GetTablets}
 use Rattle.shard_calls.specs.declared.event.Side.{Side}
 use Rattle.shard_calls.specs.declared.event.Side.TheVariants as sides
 use Rattle.shard_script.specs.declared.script.Action.{Action}
@@ -15,6 +15,7 @@ abbrev pub aliases_in : Command → List Alias
 aliases_in (Planned shard given avoid expected timeout allow_cross_cell) = []
 aliases_in (Emergency shard given ignored expected timeout prevent_cross_cell) = []
 aliases_in (External a) = []
+aliases_in Vtorc = []
 aliases_in (Write None) = []
 aliases_in (Write (Some a)) = a ∷ []
 aliases_in (Show a) = a ∷ []

@@ -1,5 +1,5 @@
 -- The grammar of a script: what each line says, and which lines make a script. The words of a line are parted by spaces and tabs.
-use Rattle.std.specs.Prelude.{◌≡◌, ◌≢◌, ◌↔◌, ℕ, ◌+◌, ◌-◌, ◌*◌, ◌^◌, ◌<◌, ◌≤◌, List, [], ◌∷◌, ◌++◌, true, Some, None, Ok, Err, length, take, filter, not, All, codes, ⊤}
+use Rattle.std.specs.Prelude.{◌≡◌, ◌≢◌, ◌↔◌, ◌⊎◌, ℕ, ◌+◌, ◌-◌, ◌*◌, ◌^◌, ◌<◌, ◌≤◌, List, [], ◌∷◌, ◌++◌, true, Option, Some, None, Ok, Err, length, take, filter, not, All, codes, ⊤}
 use Rattle.std.specs.Char.{is_ascii_digit}
 use Rattle.std.specs.List.{list_all, AllZip}
 use Rattle.std.specs.List.Sorted.{IsPermutation}
@@ -15,18 +15,20 @@ use Rattle.shard_names.specs.Tablets.{AliasesRise, ServersDiffer}
 use Rattle.durability.specs.declared.policy.Durability.{Durability}
 use Rattle.durability.specs.Policies.{policy_name}
 use Rattle.shard_calls.specs.declared.command.Command.{Command}
-use Rattle.shard_calls.specs.declared.command.Command.TheVariants.{Planned, Emergency, External, Write, Show, GetShard, GetTablets}
+use Rattle.shard_calls.specs.declared.command.Command.TheVariants.{Planned, Emergency, External, Vtorc, Write, Show, GetShard, GetTablets}
 use Rattle.shard_calls.specs.declared.event.Side.{Side}
 use Rattle.shard_calls.specs.declared.event.Side.TheVariants as sides
 use Rattle.shard_script.specs.declared.line.Line.{Line}
-use Rattle.shard_script.specs.declared.line.Line.TheVariants.{Shard, Tablet, Act}
+use Rattle.shard_script.specs.declared.line.Line.TheVariants.{Shard, Tablet, Clock, Act}
 use Rattle.shard_script.specs.declared.script.Action.{Action}
 use Rattle.shard_script.specs.declared.script.Action.TheVariants as actions
 use Rattle.shard_script.specs.declared.script.Script.{Script}
 use Rattle.script_commands.specs.Grammar.{IsNumber, IsUnit, IsOfTablet, IsCommand}
-use Rattle.shard_script.specs.Names.{IsName, started, NamesDiffer, AreKnown}
+use Rattle.shard_script.specs.Names.{started, NamesDiffer, AreKnown}
 use Rattle.shard_script.specs.Aliases.{NamesDeclared, are_ends}
-use Rattle.shard_script.specs.Lines.{words_of, is_script_byte, say_nothing, server_reading}
+use Rattle.shard_script.specs.Lines.{words_of, is_plain, say_nothing}
+use Rattle.script_commands.specs.Moments.{moment_reading}
+use Rattle.script_commands.specs.Words.{IsName, server_reading}
 use Rattle.shard_script.specs.Script.{empty_script, lines_of, ended_lines, first_bytes, reading}
 
 -- `shard K/S POLICY`: one of the five, by its name
@@ -50,6 +52,12 @@ pub record IsTabletLine (line : List ℕ) (tablet : TabletData) : Type 0 where
   pub alias_is : alias_reading alias_text ≡ Ok tablet.alias
   pub type_is : IsTypeWord type_text tablet.kind
   pub server_is : server_reading server_text ≡ Some tablet.server
+
+-- `clock MOMENT`: milliseconds since the start of 1970
+pub record IsClockLine (line : List ℕ) (moment : ℕ) : Type 0 where
+  pub moment_text : List ℕ
+  pub words : words_of line ≡ codes "clock" ∷ moment_text ∷ []
+  pub moment_is : moment_reading moment_text ≡ Some moment
 
 -- `start NAME COMMAND`: a command that is given once
 pub record IsStartLine (line name : List ℕ) (command : Command) : Type 0 where
@@ -144,6 +152,7 @@ IsActionLine line (actions.Tick ms) = IsTickLine line ms
 abbrev pub Says : List ℕ → Line → Type 0
 Says line (Shard name policy) = IsShardLine line name policy
 Says line (Tablet t) = IsTabletLine line t
+Says line (Clock moment) = IsClockLine line moment
 Says line (Act action) = IsActionLine line action
 
 -- ---- a whole script
@@ -158,6 +167,7 @@ abbrev pub IsCommandOf : ShardName → Command → Type 0
 IsCommandOf name (Planned n given avoid expected timeout allow_cross_cell) = n ≡ name
 IsCommandOf name (Emergency n given ignored expected timeout prevent_cross_cell) = n ≡ name
 IsCommandOf name (External a) = ⊤
+IsCommandOf name Vtorc = ⊤
 IsCommandOf name (Write to) = ⊤
 IsCommandOf name (Show a) = ⊤
 IsCommandOf name (GetShard n) = n ≡ name
@@ -179,17 +189,38 @@ IsOfShard name (actions.Repeat message) = ⊤
 IsOfShard name actions.Lapse = ⊤
 IsOfShard name (actions.Tick ms) = ⊤
 
--- the lines of a script: first the shard, then its tablets, then what is done to it
+-- a line that declares the first of these tablets, behind which come these lines
+pub record DeclaresTablet (line : List ℕ) (tablets : List TabletData) (Behind : List TabletData → Type 0) : Type 0 where
+  pub tablet : TabletData
+  pub others : List TabletData
+  pub tablets_are : tablets ≡ tablet ∷ others
+  pub says : IsTabletLine line tablet
+  pub behind : Behind others
+
+-- a line that declares this clock, behind which come lines that declare none
+pub record DeclaresClock (line : List ℕ) (clock : Option ℕ) (Behind : Type 0) : Type 0 where
+  pub moment : ℕ
+  pub clock_is : clock ≡ Some moment
+  pub says : IsClockLine line moment
+  pub behind : Behind
+
+-- lines that declare these tablets in order, and among them the clock, if one does
+abbrev pub AreDeclarations : List (List ℕ) → List TabletData → Option ℕ → Type 0
+AreDeclarations [] tablets clock = (tablets ≡ []) × (clock ≡ None)
+AreDeclarations (l ∷ ls) tablets clock =
+    DeclaresTablet l tablets (λ others. AreDeclarations ls others clock) ⊎ DeclaresClock l clock (AreDeclarations ls tablets None)
+
+-- the lines of a script: first the shard, then its tablets and its clock, then what is done to it
 pub record IsShardScript (lines : List (List ℕ)) (s : Script) : Type 0 where
   pub first : List ℕ
-  pub tablet_lines : List (List ℕ)
+  pub declaration_lines : List (List ℕ)
   pub action_lines : List (List ℕ)
-  pub split : lines ≡ first ∷ (tablet_lines ++ action_lines)
+  pub split : lines ≡ first ∷ (declaration_lines ++ action_lines)
   -- each line says its part
   pub name : ShardName
   pub declared : List TabletData
   pub says_shard : IsShardLine first name s.policy
-  pub say_tablets : AllZip IsTabletLine tablet_lines declared
+  pub are_declarations : AreDeclarations declaration_lines declared s.clock
   pub say_actions : AllZip IsActionLine action_lines s.actions
   -- the script has the declared tablets in alias order
   pub shard : s.shard ≡ Some name
@@ -217,19 +248,19 @@ pub data IsScript (lines : List (List ℕ)) (s : Script) : Type 0 where
 abbrev pub told_lines : List (List ℕ) → List (List ℕ)
 told_lines lines = filter (λ l. not (say_nothing (words_of l))) lines
 
--- a line of printable ASCII and tabs
+-- a line of at most 1,024 bytes, all of them printable ASCII or tabs
 abbrev pub HasScriptBytes : List ℕ → Type 0
-HasScriptBytes line = list_all is_script_byte line ≡ true
+HasScriptBytes line = is_plain line ≡ true
 
--- at most 1,000 lines, of which those that say something make a script
+-- at most 20,000 lines, of which those that say something make a script
 pub record Spell (lines : List (List ℕ)) (s : Script) : Type 0 where
-  pub few_lines : length lines ≤ 1000
+  pub few_lines : length lines ≤ 20000
   pub script_bytes : All HasScriptBytes lines
   pub script : IsScript (told_lines lines) s
 
--- a text of at most 65,536 bytes whose lines make a script
+-- a text of at most 1,048,576 bytes whose lines make a script
 pub record Spells (text : List ℕ) (s : Script) : Type 0 where
-  pub few_bytes : length text ≤ 65536
+  pub few_bytes : length text ≤ 1048576
   pub lines : Spell (lines_of text) s
 
 -- ---- the first fault
@@ -242,11 +273,11 @@ pub record IsFirstFault (lines : List (List ℕ)) (place : ℕ) : Type 0 where
   pub before : Spell (take (place - 1) lines) so_far
   pub here : (s : Script) → Spell (take place lines) s → ⊥
 
--- The first line with a fault. In a text of more than 65,536 bytes whose ended lines within these make a script it is the line behind them.
+-- The first line with a fault. In a text of more than 1,048,576 bytes whose ended lines within these make a script it is the line behind them.
 pub data HasFault (text : List ℕ) (place : ℕ) : Type 0 where
-  in_short : length text ≤ 65536 → IsFirstFault (lines_of text) place → HasFault text place
-  in_long : 65536 < length text → IsFirstFault (ended_lines (first_bytes text)) place → HasFault text place
-  too_long : (s : Script) → 65536 < length text → Spell (ended_lines (first_bytes text)) s → place ≡ length (ended_lines (first_bytes text)) + 1 → HasFault text place
+  in_short : length text ≤ 1048576 → IsFirstFault (lines_of text) place → HasFault text place
+  in_long : 1048576 < length text → IsFirstFault (ended_lines (first_bytes text)) place → HasFault text place
+  too_long : (s : Script) → 1048576 < length text → Spell (ended_lines (first_bytes text)) s → place ≡ length (ended_lines (first_bytes text)) + 1 → HasFault text place
 
 -- the reader answers what the grammar has
 abbrev pub ReadsAsSpelled : Type 0

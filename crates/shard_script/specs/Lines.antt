@@ -1,6 +1,6 @@
 -- The lines of a script, one by one: words parted by spaces and tabs, with the names and UUIDs of the Vitess manual's commands.
 use Rattle.std.specs.Prelude.{ℕ, List, [], ◌∷◌, ◌==◌, Bool, true, false, ◌&&◌, ◌||◌, not, nat_le, filter, Option, Some, None, if◌then◌else◌, length, slice_index_or, find, codes}
-use Rattle.std.specs.List.{slice_split}
+use Rattle.std.specs.List.{slice_split, list_all}
 use Rattle.std.specs.Result.{result_ok}
 use Rattle.std.specs.Str.{bytes_eq}
 use Rattle.uuid.specs.Text.{parsed}
@@ -17,10 +17,11 @@ use Rattle.shard_calls.specs.declared.event.Side.{Side}
 use Rattle.shard_calls.specs.declared.event.Side.TheVariants as sides
 use Rattle.script_commands.specs.declared.command.Given.{Given}
 use Rattle.shard_script.specs.declared.line.Line.{Line}
-use Rattle.shard_script.specs.declared.line.Line.TheVariants.{Shard, Tablet, Act}
+use Rattle.shard_script.specs.declared.line.Line.TheVariants.{Shard, Tablet, Clock, Act}
 use Rattle.shard_script.specs.declared.script.Action.TheVariants.{Play, Start, Turn, Finish, Settle, Local, Crash, Restart, Cut, Mend, Lose, Repeat, Lapse, Tick}
+use Rattle.script_commands.specs.Moments.{moment_reading}
 use Rattle.script_commands.specs.Numbers.{number_reading, number_within, duration_reading}
-use Rattle.shard_script.specs.Names.{name_reading}
+use Rattle.script_commands.specs.Words.{name_reading, server_reading, kind_reading, policy_reading, side_reading}
 use Rattle.shard_script.specs.Aliases.{are_ends}
 use Rattle.script_commands.specs.Commands.{word, command_of}
 
@@ -40,6 +41,14 @@ words_of bytes = filter (λ w. not (length w == 0)) (blank_parts bytes)
 abbrev pub is_script_byte : ℕ → Bool
 is_script_byte b = (nat_le 32 b && nat_le b 126) || (b == 9)
 
+-- at most 1,024 bytes
+abbrev pub is_short : List ℕ → Bool
+is_short line = nat_le (length line) 1024
+
+-- and all of them printable ASCII or tabs
+abbrev pub is_plain : List ℕ → Bool
+is_plain line = is_short line && list_all is_script_byte line
+
 -- a comment's first word begins with `#`
 abbrev pub begins_comment : List ℕ → Bool
 begins_comment [] = false
@@ -49,22 +58,6 @@ begins_comment (b ∷ bs) = b == 35
 abbrev pub say_nothing : List (List ℕ) → Bool
 say_nothing [] = true
 say_nothing (w ∷ ws) = begins_comment w
-
--- a UUID in the hyphenated form, in either case
-unfoldable pub server_reading : List ℕ → Option (List ℕ)
-server_reading text = if length text == 36 then parsed text else None
-
-abbrev pub kind_reading : List ℕ → Option TabletType
-kind_reading text =
-    if bytes_eq text (codes "replica") then Some Replica
-    else if bytes_eq text (codes "rdonly") then Some Rdonly
-    else if bytes_eq text (codes "spare") then Some Spare
-    else None
-
--- the policy of a name: one of the five
-unfoldable pub policy_reading : List ℕ → Option Durability
-policy_reading name =
-    find (λ p. bytes_eq (policy_name p) name) (policies.None ∷ policies.SemiSync ∷ policies.CrossCell ∷ policies.SemiSyncWithRdonlyAck ∷ policies.CrossCellWithRdonlyAck ∷ [])
 
 -- `shard K/S POLICY`
 unfoldable pub shard_line : List ℕ → List ℕ → Option Line
@@ -80,6 +73,10 @@ tablet_line alias kind server = do
   k ← kind_reading kind
   s ← server_reading server
   Some (Tablet (record { alias = a; server = s; kind = k }))
+
+-- `clock MOMENT`
+unfoldable pub clock_line : List ℕ → Option Line
+clock_line moment = moment_reading moment >>= (λ m. Some (Clock m))
 
 -- COMMAND
 unfoldable pub play_line : Option Given → Option Line
@@ -123,11 +120,6 @@ crash_line alias keep count = if bytes_eq keep (codes "keep")
 unfoldable pub restart_line : List ℕ → Option Line
 restart_line alias = result_ok (alias_reading alias) >>= (λ a. Some (Act (Restart a)))
 
--- an end of a link
-unfoldable pub side_reading : List ℕ → Option Side
-side_reading text = if bytes_eq text (codes "control") then Some sides.Control
-    else result_ok (alias_reading text) >>= (λ a. Some (sides.Tablet a))
-
 -- two ends of a link
 unfoldable pub link_reading : List ℕ → List ℕ → Option Link
 link_reading a b = do
@@ -170,7 +162,8 @@ tablet_or_message head a =
 
 abbrev pub two_words : List ℕ → List ℕ → Option Line
 two_words head a =
-    if bytes_eq head (codes "finish") then finish_line a
+    if bytes_eq head (codes "clock") then clock_line a
+    else if bytes_eq head (codes "finish") then finish_line a
     else if bytes_eq head (codes "tick") then tick_line a
     else tablet_or_message head a
 
@@ -201,7 +194,7 @@ plain_line head words =
 abbrev pub begins_command : List ℕ → Bool
 begins_command head =
     bytes_eq head (codes "PlannedReparentShard") || bytes_eq head (codes "EmergencyReparentShard") || bytes_eq head (codes "TabletExternallyReparented")
-    || bytes_eq head (codes "write") || bytes_eq head (codes "show") || bytes_eq head (codes "GetShard") || bytes_eq head (codes "GetTablets")
+    || bytes_eq head (codes "vtorc") || bytes_eq head (codes "write") || bytes_eq head (codes "show") || bytes_eq head (codes "GetShard") || bytes_eq head (codes "GetTablets")
 
 -- `start` and these words behind it: a name, and a command
 abbrev pub started_line : List (List ℕ) → Option Line

@@ -7,31 +7,6 @@ use Rattle.shard_base.specs.Options.{only_if}
 use Rattle.shard_script.specs.declared.script.Action.{Action}
 use Rattle.shard_script.specs.declared.script.Action.TheVariants.{Play, Start, Turn, Finish, Settle, Local, Crash, Restart, Cut, Mend, Lose, Repeat, Lapse, Tick}
 
--- a lower-case letter or a decimal digit
-abbrev pub is_name_byte : ℕ → Bool
-is_name_byte byte = is_ascii_lowercase byte || is_ascii_digit byte
-
--- whether the first byte is a lower-case letter
-abbrev pub begins_with_letter : List ℕ → Bool
-begins_with_letter [] = false
-begins_with_letter (first ∷ rest) = is_ascii_lowercase first
-
--- it begins with a lower-case letter and goes on with lower-case letters and digits, at most 16 in all, and is neither `main` nor `control`
-pub record IsName (name : List ℕ) : Type 0 where
-  pub first_letter : begins_with_letter name ≡ true
-  pub few_bytes : length name ≤ 16
-  pub bytes : list_all is_name_byte name ≡ true
-  pub not_main : name ≢ codes "main"
-  pub not_control : name ≢ codes "control"
-
--- whether a name is one of the two that no line starts
-abbrev pub is_taken : List ℕ → Bool
-is_taken text = bytes_eq text (codes "main") || bytes_eq text (codes "control")
-
-unfoldable pub name_reading : List ℕ → Option (List ℕ)
-name_reading text =
-    only_if (begins_with_letter text && nat_le (length text) 16 && list_all is_name_byte text && not (is_taken text)) text
-
 -- whether a name is among these
 abbrev pub has_name : List (List ℕ) → List ℕ → Bool
 has_name names name = list_any (bytes_eq name) names

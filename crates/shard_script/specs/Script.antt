@@ -1,5 +1,5 @@
 -- A script, and the fold over its lines that reads it. Its commands are those of vtctldclient (Vitess manual).
-use Rattle.std.specs.Prelude.{◌≡◌, ℕ, ◌+◌, ◌-◌, ◌≤◌, List, [], ◌∷◌, ◌++◌, Bool, true, false, ◌&&◌, not, ◌==◌, nat_lt, nat_le, Option, Some, None, is_some, is_none, Result, Ok, Err, if◌then◌else◌, length, take, slice_index_or, position, unwrap_or, All, ⊤}
+use Rattle.std.specs.Prelude.{◌≡◌, ℕ, ◌+◌, ◌-◌, ◌<◌, ◌≤◌, List, [], ◌∷◌, ◌++◌, Bool, true, false, ◌&&◌, not, ◌==◌, nat_lt, nat_le, Option, Some, None, is_some, is_none, Result, Ok, Err, if◌then◌else◌, length, take, slice_index_or, position, unwrap_or, All, ⊤}
 use Rattle.std.specs.List.{list_any, list_all}
 use Rattle.std.specs.Str.{bytes_eq}
 use Rattle.std.specs.Ordering.{is_lt}
@@ -9,19 +9,18 @@ use Rattle.shard_names.specs.declared.shard_name.ShardName.{ShardName}
 use Rattle.shard_names.specs.declared.tablet.Tablet.{Tablet as TabletData}
 use Rattle.durability.specs.declared.policy.Durability.TheVariants as policies
 use Rattle.shard_calls.specs.declared.command.Command.{Command}
-use Rattle.shard_calls.specs.declared.command.Command.TheVariants.{Planned, Emergency, External, Write, Show, GetShard, GetTablets}
+use Rattle.shard_calls.specs.declared.command.Command.TheVariants.{Planned, Emergency, External, Vtorc, Write, Show, GetShard, GetTablets}
 use Rattle.shard_calls.specs.Begins.{is_in_time}
 use Rattle.shard_script.specs.declared.line.Line.{Line}
-use Rattle.shard_script.specs.declared.line.Line.TheVariants.{Shard, Tablet, Act}
+use Rattle.shard_script.specs.declared.line.Line.TheVariants.{Shard, Tablet, Clock, Act}
 use Rattle.shard_script.specs.declared.script.Action.{Action}
 use Rattle.shard_script.specs.declared.script.Action.TheVariants as actions
 use Rattle.shard_script.specs.declared.script.Script.{Script}
-use Rattle.shard_script.specs.declared.script.ScriptFault.{ScriptFault}
-use Rattle.shard_script.specs.declared.script.ScriptFault.TheVariants as faults
-use Rattle.shard_script.specs.Names.{IsName, has_name, started_by, started, NamesDiffer, AreKnown}
+use Rattle.shard_script.specs.Names.{has_name, started_by, started, NamesDiffer, AreKnown}
 use Rattle.shard_script.specs.Aliases.{aliases_of, NamesDeclared, are_ends}
 use Rattle.script_commands.specs.Options.{parts_of}
-use Rattle.shard_script.specs.Lines.{words_of, is_script_byte, say_nothing, line_of_words}
+use Rattle.shard_script.specs.Lines.{words_of, is_plain, say_nothing, line_of_words}
+use Rattle.script_commands.specs.Words.{IsName}
 
 -- whether a tablet has this alias
 abbrev pub has_alias : List TabletData → Alias → Bool
@@ -57,11 +56,16 @@ abbrev pub admits_tablet : Script → TabletData → Bool
 admits_tablet s t =
     is_some s.shard && (length s.actions == 0) && nat_lt (length s.tablets) 32 && not (has_alias s.tablets t.alias) && not (has_server s.tablets t.server)
 
+-- a clock stands behind the shard and before the actions, once
+abbrev pub admits_clock : Script → Bool
+admits_clock s = is_some s.shard && (length s.actions == 0) && is_none s.clock
+
 -- a command of a shard is of the declared one
 abbrev pub admits_command : Script → Command → Bool
 admits_command s (Planned name given avoid expected timeout allow_cross_cell) = is_shard s.shard name
 admits_command s (Emergency name given ignored expected timeout prevent_cross_cell) = is_shard s.shard name
 admits_command s (External a) = true
+admits_command s Vtorc = true
 admits_command s (Write to) = true
 admits_command s (Show a) = true
 admits_command s (GetShard name) = is_shard s.shard name
@@ -96,15 +100,17 @@ admits_action s (actions.Tick ms) = true
 abbrev pub admits : Script → Line → Bool
 admits s (Shard name policy) = is_none s.shard
 admits s (Tablet t) = admits_tablet s t
+admits s (Clock moment) = admits_clock s
 admits s (Act action) = is_some s.shard && admits_action s action && all_declared s.tablets action
 
 abbrev pub with_line : Script → Line → Script
 with_line s (Shard name p) = record s { shard = Some name; policy = p }
 with_line s (Tablet t) = record s { tablets = in_place t s.tablets }
+with_line s (Clock moment) = record s { clock = Some moment }
 with_line s (Act action) = record s { names = s.names ++ started_by action; actions = s.actions ++ action ∷ [] }
 
 abbrev pub empty_script : Script
-empty_script = record { shard = None; policy = policies.None; tablets = []; names = []; actions = [] }
+empty_script = record { shard = None; policy = policies.None; clock = None; tablets = []; names = []; actions = [] }
 
 -- the script with the line that words spell, if it may stand there
 unfoldable pub with_words : Script → List (List ℕ) → Option Script
@@ -113,15 +119,15 @@ with_words s words = elim (line_of_words words) [ None ↦ None | Some line ↦ 
 -- The script with one more line, if it may stand there. A line that says nothing leaves the script as it is.
 unfoldable pub with_bytes : Script → List ℕ → Option Script
 with_bytes s bytes =
-    if not (list_all is_script_byte bytes) then None
+    if not (is_plain bytes) then None
     else if say_nothing (words_of bytes) then Some s
     else with_words s (words_of bytes)
 
--- The script with more lines, of which the first has this place; or the place of the first line that may not stand there. At most 1,000 lines may.
+-- The script with more lines, of which the first has this place; or the place of the first line that may not stand there. At most 20,000 lines may.
 abbrev pub read_on : ℕ → Script → List (List ℕ) → Result Script ℕ
 read_on place s [] = Ok s
 read_on place s (l ∷ ls) =
-    if nat_lt 1000 place then Err place
+    if nat_lt 20000 place then Err place
     else elim (with_bytes s l) [ None ↦ Err place | Some t ↦ read_on (place + 1) t ls ]
 
 -- the script that lines spell
@@ -164,46 +170,42 @@ ended_lines text = ended_parts (without_returns text)
 
 -- as many bytes as a script may have
 unfoldable pub first_bytes : List ℕ → List ℕ
-first_bytes text = take 65536 text
+first_bytes text = take 1048576 text
 
 -- the first fault of lines, or else one on the line behind them
 abbrev pub fault_behind : List (List ℕ) → Result Script ℕ → Result Script ℕ
 fault_behind lines (Err place) = Err place
 fault_behind lines (Ok s) = Err (length lines + 1)
 
--- The script that a text spells, or the first line with a fault. In a text of more than 65,536 bytes that is at the latest the line with the next byte.
+-- The script that a text spells, or the first line with a fault. In a text of more than 1,048,576 bytes that is at the latest the line with the next byte.
 unfoldable pub reading : List ℕ → Result Script ℕ
 reading text =
-    if nat_le (length text) 65536 then read_lines (lines_of text)
+    if nat_le (length text) 1048576 then read_lines (lines_of text)
     else fault_behind (ended_lines (first_bytes text)) (read_lines (ended_lines (first_bytes text)))
 
 -- the bytes of a script, and one more where there are too many
 unfoldable pub front : List ℕ → List ℕ
-front bytes = take 65537 bytes
+front bytes = take 1048577 bytes
 
 -- the first bytes of a text, one more than a script may have, decide how it is read
 abbrev pub FrontDecides : Type 0
 FrontDecides = (text : List ℕ) → reading text ≡ reading (front text)
 
--- what a reader returned is this, unless memory ran out
-abbrev pub Gives : Result Script ScriptFault → Result Script ℕ → Type 0
-Gives (Ok s) r = r ≡ Ok s
-Gives (Err (faults.Line place)) r = r ≡ Err place
-Gives (Err faults.OutOfMemory) r = ⊤
-
--- A command of a shard is of the declared one. Each is given once, but for a write, which is given 1 to 100 times. A turn is of 1 to 1,000,000 events, and
+-- A command of a shard is of the declared one. Each is given once, but for a write, which is given 1 to 10,000 times. A turn is of 1 to 1,000,000 events, and
 -- at most a day goes by. A link has two ends of which one is a tablet.
 abbrev pub FitsShard : Option ShardName → Action → Type 0
 FitsShard shard (actions.Play (Planned name given avoid expected timeout allow_cross_cell) n) = (shard ≡ Some name) × (n ≡ 1)
 FitsShard shard (actions.Play (Emergency name given ignored expected timeout prevent_cross_cell) n) = (shard ≡ Some name) × (n ≡ 1)
 FitsShard shard (actions.Play (External a) n) = n ≡ 1
-FitsShard shard (actions.Play (Write to) n) = (1 ≤ n) × (n ≤ 100)
+FitsShard shard (actions.Play Vtorc n) = n ≡ 1
+FitsShard shard (actions.Play (Write to) n) = (1 ≤ n) × (n ≤ 10000)
 FitsShard shard (actions.Play (Show a) n) = n ≡ 1
 FitsShard shard (actions.Play (GetShard name) n) = (shard ≡ Some name) × (n ≡ 1)
 FitsShard shard (actions.Play (GetTablets name) n) = (shard ≡ Some name) × (n ≡ 1)
 FitsShard shard (actions.Start starter (Planned name given avoid expected timeout allow_cross_cell)) = shard ≡ Some name
 FitsShard shard (actions.Start starter (Emergency name given ignored expected timeout prevent_cross_cell)) = shard ≡ Some name
 FitsShard shard (actions.Start starter (External a)) = ⊤
+FitsShard shard (actions.Start starter Vtorc) = ⊤
 FitsShard shard (actions.Start starter (Write to)) = ⊤
 FitsShard shard (actions.Start starter (Show a)) = ⊤
 FitsShard shard (actions.Start starter (GetShard name)) = shard ≡ Some name
@@ -244,9 +246,11 @@ pub record Fits (s : Script) : Type 0 where
   pub few_tablets : length s.tablets ≤ 32
   pub named : s.shard ≡ None → (s.tablets ≡ []) × (s.actions ≡ [])
   pub unnamed : s.shard ≡ None → s.policy ≡ policies.None
+  -- the clock begins before the year 9001
+  pub clock : (m : ℕ) → s.clock ≡ Some m → m < 221876928000000
   pub actions : All (FitsShard s.shard) s.actions
   pub in_time : All IsInTime s.actions
-  pub few_actions : length s.actions ≤ 1000
+  pub few_actions : length s.actions ≤ 20000
   -- where an action names a tablet that has to be declared, it is
   pub declared : All (NamesDeclared s.tablets) s.actions
   -- the names are those that the actions start, at most 16 that differ

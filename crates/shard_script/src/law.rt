@@ -1,4 +1,5 @@
 ghost use Rattle.shard_script.specs.Grammar.{ReadsAsSpelled, FaultsAsSpelled};
+ghost use Rattle.shard_script.specs.Faults.{FrontDecidesFault};
 ghost use Rattle.shard_script.specs.Script.{FrontDecides};
 
 /// A text is read exactly where the grammar of scripts spells one, and then as that one.
@@ -14,4 +15,9 @@ pub fn faults_as_spelled()
 /// The bytes that `read_all` takes decide how a text is read, also where more are left.
 pub fn front_decides()
     ensures { FrontDecides }
+{}
+
+/// They decide also which fault a text has.
+pub fn front_decides_fault()
+    ensures { FrontDecidesFault }
 {}

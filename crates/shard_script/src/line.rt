@@ -1,18 +1,19 @@
 ghost use Rattle.std.specs.Prelude.{◌≡◌, ◌==◌, map, filter, not, length, IfOk};
 ghost use Rattle.std.specs.List.{list_all};
-ghost use Rattle.shard_script.specs.Names.{is_name_byte, begins_with_letter, is_taken, name_reading};
 ghost use Rattle.shard_script.specs.Aliases.{are_ends};
 ghost use Rattle.script_commands.specs.Commands.{command_of};
-ghost use Rattle.shard_script.specs.Lines.{is_blank, blank_parts, words_of, is_script_byte, begins_comment, say_nothing, server_reading, kind_reading, policy_reading, shard_line, tablet_line, play_line, start_line, turn_line, finish_line, tick_line, local_line, crash_line, restart_line, side_reading, link_reading, cut_line, mend_line, lose_line, repeat_line, one_word, tablet_or_message, two_words, three_words, four_words, plain_line, begins_command, started_line, line_of_words};
+ghost use Rattle.shard_script.specs.Lines.{is_blank, blank_parts, words_of, is_script_byte, is_short, is_plain, begins_comment, say_nothing, shard_line, tablet_line, clock_line, play_line, start_line, turn_line, finish_line, tick_line, local_line, crash_line, restart_line, link_reading, cut_line, mend_line, lose_line, repeat_line, one_word, tablet_or_message, two_words, three_words, four_words, plain_line, begins_command, started_line, line_of_words};
 
 use crate::script::Action;
-use durability::{Durability, read_policy};
-use script_commands::{Given, command_of, read_duration, read_number, read_within};
-use shard_base::{OutOfMemory, Text};
+use durability::Durability;
+use script_commands::{
+    Given, command_of, policy_named, read_duration, read_kind, read_moment, read_name, read_number,
+    read_server, read_side, read_within,
+};
+use shard_base::OutOfMemory;
 use shard_calls::{Link, Side};
-use shard_names::{Alias, Name, ShardName, Tablet, TabletType};
+use shard_names::{Alias, ShardName, Tablet};
 use std::alloc::{AllocError, Global};
-use uuid::Uuid;
 
 /// A line of a script.
 #[derive(Drop)]
@@ -21,75 +22,10 @@ pub enum Line {
     Shard { name: ShardName, policy: Durability },
     /// One of its tablets.
     Tablet { tablet: Tablet },
+    /// The moment with which its clock begins, in milliseconds since the start of 1970.
+    Clock { moment: u64 },
     /// What is done to it.
     Act { action: Action },
-}
-
-fn is_name_byte(byte: u8) -> bool
-    ensures { result ≡ is_name_byte byte }
-{
-    byte.is_ascii_lowercase() || byte.is_ascii_digit()
-}
-
-fn all_name_bytes(text: &[u8]) -> bool
-    ensures { result ≡ list_all is_name_byte text.now }
-{
-    text.iter().all(|byte| is_name_byte(*byte))
-}
-
-fn begins_with_letter(text: &[u8]) -> bool
-    ensures { result ≡ begins_with_letter text.now }
-{
-    text.first().is_some_and(|byte| byte.is_ascii_lowercase())
-}
-
-/// Whether a name is one of the two that no line starts.
-fn is_taken(name: &[u8]) -> bool
-    ensures { result ≡ is_taken name.now }
-{
-    name == b"main".as_slice() || name == b"control".as_slice()
-}
-
-/// A name that may be started: it begins with a lower-case letter, and goes on with lower-case letters and digits.
-#[tactic(auto, unfolding(crate::specs::Names::name_reading))]
-fn read_name(text: &[u8]) -> Option<Name>
-    ensures { result ≡ name_reading text.now }
-{
-    if !begins_with_letter(text) || !all_name_bytes(text) || is_taken(text) {
-        return None;
-    }
-    Text::from_slice(text)
-}
-
-/// The hyphenated form in either case.
-fn read_server(text: &[u8]) -> Option<Uuid>
-    ensures { result ≡ server_reading text.now }
-{
-    if text.len() != 36 {
-        return None;
-    }
-    Uuid::try_parse_ascii(text).ok()
-}
-
-fn read_kind(text: &[u8]) -> Option<TabletType>
-    ensures { result ≡ kind_reading text.now }
-{
-    if text == b"replica".as_slice() {
-        Some(TabletType::Replica)
-    } else if text == b"rdonly".as_slice() {
-        Some(TabletType::Rdonly)
-    } else if text == b"spare".as_slice() {
-        Some(TabletType::Spare)
-    } else {
-        None
-    }
-}
-
-/// The policy of this name, one of the five of the Vitess manual.
-fn policy_named(name: &[u8]) -> Option<Durability>
-    ensures { result ≡ policy_reading name.now }
-{
-    read_policy(name).ok()
 }
 
 #[tactic(auto, unfolding(crate::specs::Lines::shard_line))]
@@ -115,6 +51,14 @@ fn tablet_line(alias: &[u8], kind: &[u8], server: &[u8]) -> Option<Line>
             kind,
         },
     })
+}
+
+#[tactic(auto, unfolding(crate::specs::Lines::clock_line))]
+fn clock_line(moment: &[u8]) -> Option<Line>
+    ensures { result ≡ clock_line moment.now }
+{
+    let moment = read_moment(moment)?;
+    Some(Line::Clock { moment })
 }
 
 #[tactic(auto, unfolding(crate::specs::Lines::play_line))]
@@ -210,18 +154,6 @@ fn restart_line(alias: &[u8]) -> Option<Line>
     Some(Line::Act {
         action: Action::Restart { alias },
     })
-}
-
-/// An end of a link: `control` or a tablet.
-#[tactic(auto, unfolding(crate::specs::Lines::side_reading))]
-fn read_side(text: &[u8]) -> Option<Side>
-    ensures { result ≡ side_reading text.now }
-{
-    if text == b"control".as_slice() {
-        return Some(Side::Control);
-    }
-    let alias = Alias::read(text).ok()?;
-    Some(Side::Tablet { alias })
 }
 
 /// Whether there is a link between the two: not of the commands' end with itself.
@@ -335,7 +267,9 @@ fn tablet_or_message(head: &[u8], a: &[u8]) -> Option<Line>
 fn two_words(head: &[u8], a: &[u8]) -> Option<Line>
     ensures { result ≡ two_words head.now a.now }
 {
-    if head == b"finish".as_slice() {
+    if head == b"clock".as_slice() {
+        clock_line(a)
+    } else if head == b"finish".as_slice() {
         finish_line(a)
     } else if head == b"tick".as_slice() {
         tick_line(a)
@@ -396,6 +330,7 @@ fn begins_command(head: &[u8]) -> bool
     head == b"PlannedReparentShard".as_slice()
         || head == b"EmergencyReparentShard".as_slice()
         || head == b"TabletExternallyReparented".as_slice()
+        || head == b"vtorc".as_slice()
         || head == b"write".as_slice()
         || head == b"show".as_slice()
         || head == b"GetShard".as_slice()
@@ -476,6 +411,23 @@ pub fn has_script_bytes(bytes: &[u8]) -> bool
     ensures { result ≡ list_all is_script_byte bytes.now }
 {
     bytes.iter().all(|byte| is_script_byte(*byte))
+}
+
+/// The most bytes of a line.
+const MOST_LINE_BYTES: usize = 1024;
+
+/// Whether a line has no more bytes than it may have.
+pub fn is_short(bytes: &[u8]) -> bool
+    ensures { result ≡ is_short bytes.now }
+{
+    bytes.len() <= MOST_LINE_BYTES
+}
+
+/// Whether a line has such bytes, and no more of them than it may have.
+pub fn is_plain(bytes: &[u8]) -> bool
+    ensures { result ≡ is_plain bytes.now }
+{
+    is_short(bytes) && has_script_bytes(bytes)
 }
 
 fn begins_comment(word: &[u8]) -> bool

@@ -4,11 +4,14 @@ ghost use Rattle.std.specs.Str.{bytes_eq};
 ghost use Rattle.shard_names.specs.Tablets.{alias_eq};
 ghost use Rattle.shard_script.specs.Names.{has_name, started_by};
 ghost use Rattle.shard_script.specs.Aliases.{aliases_in, aliases_at};
-ghost use Rattle.shard_script.specs.Script.{all_declared, first_bytes, place_among, has_alias, has_server, shard_eq, is_shard, is_below, in_place, admits_tablet, admits_command, admits_name, admits_action, admits, with_line, with_words, with_bytes, begins_newline, kept_byte, without_returns, all_parts, ended_parts, lines_of, ended_lines, read_on, read_lines, fault_behind, reading, Gives, Fits};
+ghost use Rattle.shard_script.specs.Faults.{fault_of, fault_in, first_fault, line_reading, line_fault, IsAdded, IsRead, Gives};
+ghost use Rattle.shard_script.specs.Script.{all_declared, first_bytes, place_among, has_alias, has_server, shard_eq, is_shard, is_below, in_place, admits_tablet, admits_clock, admits_command, admits_name, admits_action, admits, with_line, with_words, with_bytes, begins_newline, kept_byte, without_returns, all_parts, ended_parts, lines_of, ended_lines, empty_script, read_lines, fault_behind, reading, Fits};
 
-use crate::line::{Line, has_script_bytes, line_of_words, say_nothing, words_of};
+use crate::fault::fault_of;
+use crate::line::{Line, is_plain, line_of_words, say_nothing, words_of};
 use durability::Durability;
 use script_commands::parts_of;
+use script_faults::Fault;
 use shard_base::{Items, OutOfMemory};
 use shard_calls::{Command, Side};
 use shard_names::{Alias, Name, ShardName, Tablet};
@@ -54,6 +57,8 @@ pub struct Script {
     pub shard: Option<ShardName>,
     /// The shard's durability policy. That of a script without a shard line is `none`.
     pub policy: Durability,
+    /// The moment with which the clock begins, in milliseconds since the start of 1970, if a line declares it.
+    pub clock: Option<u64>,
     pub tablets: Items<Tablet>,
     /// The names that it starts, in order.
     pub names: Items<Name>,
@@ -63,8 +68,8 @@ pub struct Script {
 /// Why a text is no script.
 #[derive(Clone, Copy, Debug, PartialEq, Eq)]
 pub enum ScriptFault {
-    /// The first line that may not stand there, from 1.
-    Line(u64),
+    /// The first line that may not stand there, from 1, and what is wrong with it.
+    Line { line: u64, fault: Fault },
     OutOfMemory,
 }
 
@@ -103,13 +108,13 @@ fn is_below(a: &Alias, b: &Alias) -> bool
     a < b
 }
 
-fn has_alias(tablets: &[Tablet], alias: &Alias) -> bool
+pub(crate) fn has_alias(tablets: &[Tablet], alias: &Alias) -> bool
     ensures { result ≡ has_alias tablets.now alias.now }
 {
     tablets.iter().any(|t| same_alias(&t.alias, alias))
 }
 
-fn has_server(tablets: &[Tablet], server: &Uuid) -> bool
+pub(crate) fn has_server(tablets: &[Tablet], server: &Uuid) -> bool
     ensures { result ≡ has_server tablets.now server.now }
 {
     tablets.iter().any(|t| same_server(&t.server, server))
@@ -121,7 +126,7 @@ fn same_name(a: &Name, b: &Name) -> bool
     a == b
 }
 
-fn has_name(names: &[Name], name: &Name) -> bool
+pub(crate) fn has_name(names: &[Name], name: &Name) -> bool
     ensures { result ≡ has_name names.now name.now }
 {
     names.iter().any(|n| same_name(name, n))
@@ -137,16 +142,16 @@ fn is_shard(shard: &Option<ShardName>, name: &ShardName) -> bool
 }
 
 /// The most tablets of a script.
-const MOST_TABLETS: usize = 32;
+pub(crate) const MOST_TABLETS: usize = 32;
 
 /// The most names that a script starts.
-const MOST_NAMES: usize = 16;
+pub(crate) const MOST_NAMES: usize = 16;
 
 /// The most lines of a script.
-const MOST_LINES: usize = 1000;
+const MOST_LINES: u64 = 20_000;
 
 /// The most bytes of a script.
-const MOST_BYTES: usize = 65536;
+const MOST_BYTES: usize = 1_048_576;
 
 fn admits_tablet(script: &Script, tablet: &Tablet) -> bool
     ensures { result ≡ admits_tablet script.now tablet.now }
@@ -158,6 +163,12 @@ fn admits_tablet(script: &Script, tablet: &Tablet) -> bool
         && !has_server(script.tablets.as_slice(), &tablet.server)
 }
 
+fn admits_clock(script: &Script) -> bool
+    ensures { result ≡ admits_clock script.now }
+{
+    script.shard.is_some() && script.actions.is_empty() && script.clock.is_none()
+}
+
 fn admits_command(script: &Script, command: &Command) -> bool
     ensures { result ≡ admits_command script.now command.now }
 {
@@ -165,6 +176,7 @@ fn admits_command(script: &Script, command: &Command) -> bool
         Command::Planned { shard, .. } => is_shard(&script.shard, shard),
         Command::Emergency { shard, .. } => is_shard(&script.shard, shard),
         Command::External { .. } => true,
+        Command::Vtorc => true,
         Command::Write { .. } => true,
         Command::Show { .. } => true,
         Command::GetShard { shard } => is_shard(&script.shard, shard),
@@ -186,6 +198,7 @@ fn command_declared(tablets: &[Tablet], command: &Command) -> bool
         Command::Planned { .. } => true,
         Command::Emergency { .. } => true,
         Command::External { .. } => true,
+        Command::Vtorc => true,
         Command::Write { to } => match to {
             Some(alias) => has_alias(tablets, alias),
             None => true,
@@ -258,6 +271,7 @@ fn admits(script: &Script, line: &Line) -> bool
     match line {
         Line::Shard { .. } => script.shard.is_none(),
         Line::Tablet { tablet } => admits_tablet(script, tablet),
+        Line::Clock { .. } => admits_clock(script),
         Line::Act { action } => {
             script.shard.is_some()
                 && admits_action(script, action)
@@ -326,6 +340,7 @@ fn with_line(script: Script, line: Line) -> Result<Script, OutOfMemory>
     let Script {
         mut shard,
         mut policy,
+        mut clock,
         mut tablets,
         mut names,
         mut actions,
@@ -339,6 +354,7 @@ fn with_line(script: Script, line: Line) -> Result<Script, OutOfMemory>
             policy = declared;
         }
         Line::Tablet { tablet } => tablets = insert_tablet(tablets, tablet)?,
+        Line::Clock { moment } => clock = Some(moment),
         Line::Act { action } => {
             names = with_started(names, &action)?;
             actions = with_action(actions, action)?;
@@ -347,39 +363,51 @@ fn with_line(script: Script, line: Line) -> Result<Script, OutOfMemory>
     Ok(Script {
         shard,
         policy,
+        clock,
         tablets,
         names,
         actions,
     })
 }
 
-/// The script with the line that the words spell, if it may stand there.
+/// The script with the line that the words spell, or the same script where it may not stand there.
 #[tactic(auto, unfolding(crate::specs::Script::with_words))]
-fn with_words(alloc: Global, script: Script, words: &[&[u8]]) -> Result<Option<Script>, OutOfMemory>
-    ensures { IfOk result (λ new. new ≡ with_words script (map (λ w. w.now) words.now)) }
+fn with_words(
+    alloc: Global,
+    script: Script,
+    words: &[&[u8]],
+) -> Result<Result<Script, Script>, OutOfMemory>
+    ensures { IfOk result (λ new. IsAdded script new (with_words script (map (λ w. w.now) words.now))) }
 {
     let Some(line) = line_of_words(alloc, words)? else {
-        return Ok(None);
+        return Ok(Err(script));
     };
     if !admits(&script, &line) {
-        return Ok(None);
+        return Ok(Err(script));
     }
-    Ok(Some(with_line(script, line)?))
+    Ok(Ok(with_line(script, line)?))
 }
 
-/// The script with the line that the bytes spell, if it may stand there.
+/// The script with the line that the bytes spell, or what is wrong with it.
 #[tactic(auto, unfolding(crate::specs::Script::with_bytes))]
-fn with_bytes(alloc: Global, script: Script, bytes: &[u8]) -> Result<Option<Script>, OutOfMemory>
-    ensures { IfOk result (λ new. new ≡ with_bytes script bytes.now) }
+fn with_bytes(
+    alloc: Global,
+    script: Script,
+    bytes: &[u8],
+) -> Result<Result<Script, Fault>, OutOfMemory>
+    ensures { IfOk result (λ new. IsRead new (with_bytes script bytes.now) (fault_of script bytes.now)) }
 {
-    if !has_script_bytes(bytes) {
-        return Ok(None);
-    }
     let words = words_of(alloc, bytes)?;
-    if say_nothing(&words) {
-        return Ok(Some(script));
+    if !is_plain(bytes) {
+        return Ok(Err(fault_of(&script, bytes, &words)));
     }
-    with_words(alloc, script, &words)
+    if say_nothing(&words) {
+        return Ok(Ok(script));
+    }
+    match with_words(alloc, script, &words)? {
+        Ok(next) => Ok(Ok(next)),
+        Err(script) => Ok(Err(fault_of(&script, bytes, &words))),
+    }
 }
 
 fn begins_newline(text: &[u8]) -> bool
@@ -440,24 +468,40 @@ fn ended_parts(alloc: Global, text: &[u8]) -> Result<Vec<&[u8]>, OutOfMemory>
     Ok(lines)
 }
 
-fn read_lines(alloc: Global, lines: &[&[u8]]) -> Result<Script, ScriptFault>
-    ensures { Gives result (read_lines (map (λ l. l.now) lines.now)) }
+/// What is read before the first line.
+fn empty_script(alloc: Global) -> Script
+    ensures { result ≡ empty_script }
 {
-    let mut script = Script {
+    Script {
         shard: None,
         policy: Durability::None,
+        clock: None,
         tablets: Items::new(alloc),
         names: Items::new(alloc),
         actions: Items::new(alloc),
-    };
+    }
+}
+
+/// The script with the line at this place, which is counted from 1.
+fn read_line(alloc: Global, script: Script, line: u64, bytes: &[u8]) -> Result<Script, ScriptFault>
+    ensures { Gives result (line_reading line script bytes.now) (line_fault line script bytes.now) }
+{
+    if line > MOST_LINES {
+        let fault = Fault::Limit;
+        return Err(ScriptFault::Line { line, fault });
+    }
+    match with_bytes(alloc, script, bytes)? {
+        Ok(next) => Ok(next),
+        Err(fault) => Err(ScriptFault::Line { line, fault }),
+    }
+}
+
+fn read_lines(alloc: Global, lines: &[&[u8]]) -> Result<Script, ScriptFault>
+    ensures { Gives result (read_lines (map (λ l. l.now) lines.now)) (fault_in (map (λ l. l.now) lines.now)) }
+{
+    let mut script = empty_script(alloc);
     for (index, bytes) in lines.iter().enumerate() {
-        if index >= MOST_LINES {
-            return Err(ScriptFault::Line(index as u64 + 1));
-        }
-        let Some(next) = with_bytes(alloc, script, bytes)? else {
-            return Err(ScriptFault::Line(index as u64 + 1));
-        };
-        script = next;
+        script = read_line(alloc, script, index as u64 + 1, bytes)?;
     }
     Ok(script)
 }
@@ -465,7 +509,7 @@ fn read_lines(alloc: Global, lines: &[&[u8]]) -> Result<Script, ScriptFault>
 /// As many bytes as a script may have.
 #[tactic(auto, unfolding(crate::specs::Script::first_bytes))]
 fn first_bytes(text: &[u8]) -> &[u8]
-    requires { 65536 ≤ length text.now }
+    requires { 1048576 ≤ length text.now }
     ensures { result.now ≡ first_bytes text.now }
 {
     &text[..MOST_BYTES]
@@ -473,7 +517,7 @@ fn first_bytes(text: &[u8]) -> &[u8]
 
 /// The script that a text of no more bytes spells.
 fn read_short(alloc: Global, text: &[u8]) -> Result<Script, ScriptFault>
-    ensures { Gives result (read_lines (lines_of text.now)) }
+    ensures { Gives result (read_lines (lines_of text.now)) (fault_in (lines_of text.now)) }
 {
     let plain = without_returns(alloc, text)?;
     let lines = all_parts(alloc, &plain)?;
@@ -482,19 +526,22 @@ fn read_short(alloc: Global, text: &[u8]) -> Result<Script, ScriptFault>
 
 /// The first fault of a longer text, of which these are the first bytes.
 fn read_cut(alloc: Global, text: &[u8]) -> Result<Script, ScriptFault>
-    ensures { Gives result (fault_behind (ended_lines text.now) (read_lines (ended_lines text.now))) }
+    ensures { Gives result (fault_behind (ended_lines text.now) (read_lines (ended_lines text.now))) (fault_in (ended_lines text.now)) }
 {
     let plain = without_returns(alloc, text)?;
     let lines = ended_parts(alloc, &plain)?;
     match read_lines(alloc, &lines) {
-        Ok(_) => Err(ScriptFault::Line(lines.len() as u64 + 1)),
+        Ok(_) => Err(ScriptFault::Line {
+            line: lines.len() as u64 + 1,
+            fault: Fault::Limit,
+        }),
         Err(fault) => Err(fault),
     }
 }
 
-#[tactic(auto, unfolding(crate::specs::Script::reading))]
+#[tactic(auto, unfolding(crate::specs::Script::reading, crate::specs::Faults::first_fault))]
 fn read_whole(alloc: Global, text: &[u8]) -> Result<Script, ScriptFault>
-    ensures { Gives result (reading text.now) }
+    ensures { Gives result (reading text.now) (first_fault text.now) }
 {
     if text.len() <= MOST_BYTES {
         return read_short(alloc, text);
@@ -502,9 +549,9 @@ fn read_whole(alloc: Global, text: &[u8]) -> Result<Script, ScriptFault>
     read_cut(alloc, first_bytes(text))
 }
 
-/// The script that a text spells, or the first line that may not stand there.
+/// The script that a text spells, or the first line that may not stand there with its fault.
 pub fn read_text(alloc: Global, text: &[u8]) -> Result<Script, ScriptFault>
-    ensures exact { Gives result (reading text.now) }
+    ensures exact { Gives result (reading text.now) (first_fault text.now) }
     ensures fits { IfOk result Fits }
 {
     read_whole(alloc, text)

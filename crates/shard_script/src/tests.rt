@@ -9,7 +9,7 @@ use std::test::Fail;
 fn policy_of(alloc: Global, text: &[u8]) -> Result<Option<Durability>, OutOfMemory> {
     match read_text(alloc, text) {
         Ok(script) => Ok(Some(script.policy)),
-        Err(ScriptFault::Line(_)) => Ok(None),
+        Err(ScriptFault::Line { .. }) => Ok(None),
         Err(ScriptFault::OutOfMemory) => Err(OutOfMemory),
     }
 }
@@ -58,7 +58,7 @@ fn kind_of(alloc: Global, kind: &[u8]) -> Result<Option<TabletType>, OutOfMemory
     )?;
     match read_text(alloc, &text) {
         Ok(script) => Ok(script.tablets.as_slice().first().map(|tablet| tablet.kind)),
-        Err(ScriptFault::Line(_)) => Ok(None),
+        Err(ScriptFault::Line { .. }) => Ok(None),
         Err(ScriptFault::OutOfMemory) => Err(OutOfMemory),
     }
 }
@@ -72,8 +72,8 @@ fn reads_the_types_of_tablets(rt: HostRuntime) -> Result<(), Fail> {
     Ok(())
 }
 
-/// The line with a fault in a script of two tablets with these lines behind them, which begin with line 4.
-fn fault_of(alloc: Global, lines: &[u8]) -> Result<Option<u64>, OutOfMemory> {
+/// The first fault of a script of two tablets with these lines behind them, which begin with line 4: the line and the code.
+pub(crate) fn fault_of(alloc: Global, lines: &[u8]) -> Result<Option<(u64, u8)>, OutOfMemory> {
     let mut text = Vec::new(alloc);
     let first = b"tablet zone1-100 replica 00000000-0000-4000-8000-000000000100\n";
     let second = b"tablet zone1-101 replica 00000000-0000-4000-8000-000000000101\n";
@@ -86,9 +86,14 @@ fn fault_of(alloc: Global, lines: &[u8]) -> Result<Option<u64>, OutOfMemory> {
             lines,
         ],
     )?;
-    match read_text(alloc, &text) {
+    fault_in(alloc, &text)
+}
+
+/// The first fault of a text: the line and the code.
+pub(crate) fn fault_in(alloc: Global, text: &[u8]) -> Result<Option<(u64, u8)>, OutOfMemory> {
+    match read_text(alloc, text) {
         Ok(_) => Ok(None),
-        Err(ScriptFault::Line(place)) => Ok(Some(place)),
+        Err(ScriptFault::Line { line, fault }) => Ok(Some((line, fault.code()))),
         Err(ScriptFault::OutOfMemory) => Err(OutOfMemory),
     }
 }
@@ -110,34 +115,6 @@ fn reads_what_is_done_to_tablets_and_messages(rt: HostRuntime) -> Result<(), Fai
     ];
     for line in lines {
         assert_eq!(rt; fault_of(rt.alloc(), line)?, None);
-    }
-    Ok(())
-}
-
-#[test]
-fn finds_the_line_with_a_fault(rt: HostRuntime) -> Result<(), Fail> {
-    let faults = [
-        (b"settle\nlocal zone1-102".as_slice(), 5),
-        (b"show zone1-102".as_slice(), 4),
-        (b"write 1 to zone1-102".as_slice(), 4),
-        (b"write 1 zone1-100".as_slice(), 4),
-        (b"write 0 to zone1-100".as_slice(), 4),
-        (b"start w write 2 to zone1-100".as_slice(), 4),
-        (b"start w settle".as_slice(), 4),
-        (b"start P-1 write 1".as_slice(), 4),
-        (b"start P1 write 1".as_slice(), 4),
-        (b"start 1p write 1".as_slice(), 4),
-        (b"start p-1 write 1".as_slice(), 4),
-        (b"start abcdefghijklmn019 write 1".as_slice(), 4),
-        (b"start control write 1".as_slice(), 4),
-        (b"cut control zone1-100\ncut control control".as_slice(), 5),
-        (b"mend zone1-100 zone1-102".as_slice(), 4),
-        (b"crash zone1-100 0".as_slice(), 4),
-        (b"crash zone1-100 keep 18446744073709551616".as_slice(), 4),
-        (b"lose 1\nrepeat -1".as_slice(), 5),
-    ];
-    for (lines, place) in faults {
-        assert_eq!(rt; fault_of(rt.alloc(), lines)?, Some(place));
     }
     Ok(())
 }
@@ -171,62 +148,11 @@ fn reads_the_other_commands_of_a_shard(rt: HostRuntime) -> Result<(), Fail> {
         b"TabletExternallyReparented zone1-101".as_slice(),
         b"TabletExternallyReparented zone9-9".as_slice(),
         b"GetShard commerce/0\nGetTablets commerce/0".as_slice(),
+        b"vtorc\n vtorc \nstart v vtorc\nfinish v".as_slice(),
         b"start g GetShard commerce/0\nstart t GetTablets commerce/0\nstart x TabletExternallyReparented zone1-100".as_slice(),
     ];
     for line in lines {
         assert_eq!(rt; fault_of(rt.alloc(), line)?, None);
-    }
-    Ok(())
-}
-
-#[test]
-fn finds_faults_of_options(rt: HostRuntime) -> Result<(), Fail> {
-    let lines = [
-        b"PlannedReparentShard".as_slice(),
-        b"PlannedReparentShard commerce/1".as_slice(),
-        b"PlannedReparentShard commerce/0 commerce/0".as_slice(),
-        b"PlannedReparentShard commerce/0 --new-primary".as_slice(),
-        b"PlannedReparentShard commerce/0 --new-primary=".as_slice(),
-        b"PlannedReparentShard commerce/0 --new-primary -zone1-100".as_slice(),
-        b"PlannedReparentShard commerce/0 --new-primary=-zone1-100".as_slice(),
-        b"PlannedReparentShard commerce/0 --new-primary zone1-100 --new-primary=zone1-100".as_slice(),
-        b"PlannedReparentShard commerce/0 --new-prim zone1-100".as_slice(),
-        b"PlannedReparentShard commerce/0 -- --new-primary zone1-100".as_slice(),
-        b"PlannedReparentShard commerce/0 --wait-replicas-timeout 86401s".as_slice(),
-        b"PlannedReparentShard commerce/0 --wait-replicas-timeout 15".as_slice(),
-        b"PlannedReparentShard commerce/0 --allow-cross-cell-promotion --allow-cross-cell-promotion".as_slice(),
-        b"PlannedReparentShard commerce/0 --allow-cross-cell-promotion=true".as_slice(),
-        b"PlannedReparentShard commerce/0 --prevent-cross-cell-promotion".as_slice(),
-        b"PlannedReparentShard commerce/0 -i zone1-100".as_slice(),
-    ];
-    for line in lines {
-        assert_eq!(rt; fault_of(rt.alloc(), line)?, Some(4));
-    }
-    Ok(())
-}
-
-#[test]
-fn finds_faults_of_other_commands(rt: HostRuntime) -> Result<(), Fail> {
-    let lines = [
-        b"EmergencyReparentShard commerce/0 -i".as_slice(),
-        b"EmergencyReparentShard commerce/0 -i=".as_slice(),
-        b"EmergencyReparentShard commerce/0 -i zone1-100,".as_slice(),
-        b"EmergencyReparentShard commerce/0 -i-x-100".as_slice(),
-        b"EmergencyReparentShard commerce/0 -ignore".as_slice(),
-        b"EmergencyReparentShard commerce/0 -i zone1-100 --ignore-replicas zone1-101".as_slice(),
-        b"EmergencyReparentShard commerce/0 --avoid-primary zone1-100".as_slice(),
-        b"EmergencyReparentShard commerce/0 --allow-cross-cell-promotion".as_slice(),
-        b"TabletExternallyReparented -- zone1-100".as_slice(),
-        b"TabletExternallyReparented".as_slice(),
-        b"TabletExternallyReparented zone1-100 zone1-101".as_slice(),
-        b"GetShard commerce/1".as_slice(),
-        b"GetTablets".as_slice(),
-        b"GetTablets commerce".as_slice(),
-        b"show -- zone1-100".as_slice(),
-        b"vtorc".as_slice(),
-    ];
-    for line in lines {
-        assert_eq!(rt; fault_of(rt.alloc(), line)?, Some(4));
     }
     Ok(())
 }
@@ -241,23 +167,6 @@ fn passes_over_comments(rt: HostRuntime) -> Result<(), Fail> {
     ];
     for text in texts {
         assert_eq!(rt; fault_of(rt.alloc(), text)?, None);
-    }
-    Ok(())
-}
-
-#[test]
-fn counts_lines_that_are_passed_over(rt: HostRuntime) -> Result<(), Fail> {
-    let faults = [
-        (b"# a story\n\nwrit 1".as_slice(), 6),
-        (b"write 1 # twice".as_slice(), 4),
-        (b"# caf\xc3\xa9\nwrite 1".as_slice(), 4),
-        (b"write 1\r".as_slice(), 4),
-        (b"settle\r\r\n".as_slice(), 4),
-        (b"set\rtle\n".as_slice(), 4),
-        (b"\x0bsettle\n".as_slice(), 4),
-    ];
-    for (text, place) in faults {
-        assert_eq!(rt; fault_of(rt.alloc(), text)?, Some(place));
     }
     Ok(())
 }

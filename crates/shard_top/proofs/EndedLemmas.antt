@@ -6,7 +6,7 @@ use Rattle.shard_base.specs.Options.{◌>>=◌}
 use Rattle.shard_names.specs.declared.alias.Alias.{Alias}
 use Rattle.shard_names.specs.declared.tablet.Tablet.{Tablet}
 use Rattle.shard_names.specs.Tablets.{tablet_of}
-use Rattle.topo_lock.specs.Topology.{answer_take, answer_intend, answer_record}
+use Rattle.topo_lock.specs.Topology.{answer_take, answer_intend, answer_record, answer_drain}
 use Rattle.topo_lock.specs.declared.lock.LockTaken.{LockTaken}
 use Rattle.topo_lock.specs.declared.lock.TopoFault.{TopoFault}
 use Rattle.topo_lock.specs.declared.lock.TopoFault.TheVariants as faults
@@ -16,7 +16,7 @@ use Rattle.shard_calls.specs.Tablets.{TabletState}
 use Rattle.shard_calls.specs.World.{Config, World, opening, numbered, changed, changed_at, with_act, next_message, open_command, term_of}
 use Rattle.shard_calls.specs.Messages.{why_given_up, offer_to}
 use Rattle.shard_calls.specs.Begins.{begun_state, ends_by}
-use Rattle.shard_calls.specs.Locks.{with_taken, takes_by, by_term, read_act, reads, with_intended, intends_in, with_recorded, records_in, as_released, releases_in}
+use Rattle.shard_calls.specs.Locks.{with_taken, takes_by, by_term, read_act, reads, with_intended, intends_in, with_recorded, with_drained, records_in, drains_in, as_released, releases_in}
 use Rattle.shard_calls.specs.Deliveries.{if_declared}
 use Rattle.shard_calls.specs.Writes.{with_written, write_verdict, writes_at, writes_in, tell_of, told_act, with_told}
 use Rattle.shard_calls.specs.Table.{after, world_after}
@@ -93,6 +93,11 @@ recorded_keeps a (Ok u) s e = e
 recorded_keeps a (Err (faults.LockLost current)) s e = e
 recorded_keeps a (Err (faults.IntentStands b)) s e = e
 
+drained_keeps : (a : Alias) (r : Result (Unit {0}) TopoFault) → KeepsEnd (with_drained a r)
+drained_keeps a (Ok u) s e = e
+drained_keeps a (Err (faults.LockLost current)) s e = e
+drained_keeps a (Err (faults.IntentStands b)) s e = e
+
 written_keeps : (a : Alias) (old : TabletState) (r : Written) → KeepsEnd (with_written a old r)
 written_keeps a old (writtens.Entry g) s e = e
 written_keeps a old (writtens.NotPrimary at) s e = e
@@ -127,6 +132,8 @@ stays config w (events.Intend b a) c x h =
     term_stays w b (intends_in w b a) (λ t. with_intended a (answer_intend w.topo t a)) (term_of w b) c x (λ t. refl) (λ t. intended_keeps a (answer_intend w.topo t a)) h
 stays config w (events.Record b a) c x h =
     term_stays w b (records_in w b a) (λ t. with_recorded a (answer_record w.topo t)) (term_of w b) c x (λ t. refl) (λ t. recorded_keeps a (answer_record w.topo t)) h
+stays config w (events.Drain b a) c x h =
+    term_stays w b (drains_in w b a) (λ t. with_drained a (answer_drain w.topo t)) (term_of w b) c x (λ t. refl) (λ t. drained_keeps a (answer_drain w.topo t)) h
 stays config w (events.Release b) c x h = term_stays w b (releases_in w b) (λ t. as_released) (term_of w b) c x (λ t. refl) (λ t s e. e) h
 stays config w events.Lapse c x h = as_it_was _ x h
 stays config w (events.Send b a call) c x h = command_stays w b (with_act (acts.Sent (next_message w))) c x (λ s e. e) h
@@ -221,6 +228,7 @@ grows config w (events.Take b) = take_grows w b (open_command w b)
 grows config w (events.Read b) = term_grows w b (reads w b) (λ t. with_act (read_act w.topo t)) (term_of w b) (λ t. refl)
 grows config w (events.Intend b a) = term_grows w b (intends_in w b a) (λ t. with_intended a (answer_intend w.topo t a)) (term_of w b) (λ t. refl)
 grows config w (events.Record b a) = term_grows w b (records_in w b a) (λ t. with_recorded a (answer_record w.topo t)) (term_of w b) (λ t. refl)
+grows config w (events.Drain b a) = term_grows w b (drains_in w b a) (λ t. with_drained a (answer_drain w.topo t)) (term_of w b) (λ t. refl)
 grows config w (events.Release b) = term_grows w b (releases_in w b) (λ t. as_released) (term_of w b) (λ t. refl)
 grows config w events.Lapse = omega arith
 grows config w (events.Send b a call) = changed_grows w.commands b _

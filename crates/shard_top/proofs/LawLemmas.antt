@@ -1,6 +1,7 @@
 -- A script plays one run, it is a run of the machine, and its notes stand in their places.
 use Rattle.std.proofs.Common.{◌≡◌, ℕ, zero, suc, ◌+◌, ◌≤◌, ◌==◌, List, [], ◌∷◌, ◌++◌, Bool, true, false, cond, ◌&&◌, nat_le, Option, Some, None, is_some, length, refl, sym, subst, ◌∙◌, arith}
-use Rattle.std.specs.Prelude.{All}
+use Rattle.std.specs.Prelude.{◌<◌, All, IsTrue, nat_lt, unwrap_or}
+use Rattle.shard_script.specs.Script.{Fits}
 use Rattle.std.specs.List.{find}
 use Rattle.std.specs.List.Sorted.{IsNonDecreasingBy}
 use Rattle.std.proofs.lemmas.Bool.{false≢true}
@@ -211,12 +212,16 @@ keeps_from config wants lines done p (Stepped s ∷ made) time run h =
     let back : Keep config (after config w s.event) (steps_of made) = subst (λ (v : World). Keep config v (steps_of made)) (sym next) r in
     ((step, back.0), (fair.of_course, back.1)))
 
-begins_in_time : (s : Script) → BeginsInTime (config_of s)
+begins_in_time : (s : Script) → Fits s → BeginsInTime (config_of s)
 unfolding first_moment
-begins_in_time s = refl
+begins_in_time s h = by_clock s.clock refl
+  where
+    by_clock : (o : Option ℕ) → s.clock ≡ o → IsTrue (nat_lt (unwrap_or o 1704067200000) 253370764800000)
+    by_clock None is = refl
+    by_clock (Some m) is = let less : m < 221876928000000 = h.clock m is in grind (arith, nat_tests)
 
 pub played_is_run : PlayedIsRun
-played_is_run s wants made h = keeps_from (config_of s) wants s.actions [] first_player made (begins_in_time s) tt h
+played_is_run s wants made fits h = keeps_from (config_of s) wants s.actions [] first_player made (begins_in_time s fits) tt h
 
 -- ---- notes in their places
 

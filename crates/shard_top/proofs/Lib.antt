@@ -13,3 +13,5 @@ pub mod TopLemmas
 pub mod LawLemmas
 pub mod WantLemmas
 pub mod ProgramRuns
+pub mod WordLemmas
+pub mod TellingLemmas

@@ -1,15 +1,13 @@
 -- A command that is open after an event was open before, unless its actor begins it by this event.
-use Rattle.std.proofs.Common.{◌≡◌, ◌⊎◌, inl, inr, Bool, false, not, cond, ℕ, zero, suc, ◌+◌, ◌≤◌, List, [], ◌∷◌, ◌++◌, true, Option, Some, None, is_some, Result, Ok, Err, length, refl, ap, sym, subst, ◌∙◌, arith, length-append}
+use Rattle.std.proofs.Common.{◌≡◌, ◌⊎◌, inl, inr, Bool, false, not, cond, ℕ, ◌+◌, List, [], ◌∷◌, ◌++◌, true, Option, Some, None, Result, Ok, Err, length, refl, ap, sym, subst, ◌∙◌}
 use Rattle.std.proofs.lemmas.Bool.{false≢true}
 use Rattle.std.proofs.lemmas.Slice.Eq.{bytes_eq-Decides}
-use Rattle.std.specs.Str.{bytes_eq}
 use Rattle.shard_calls.specs.declared.command.Command.{Command}
-use Rattle.std.specs.List.{slice_get}
 use Rattle.shard_base.specs.Options.{◌>>=◌}
 use Rattle.shard_names.specs.declared.alias.Alias.{Alias}
 use Rattle.shard_names.specs.declared.tablet.Tablet.{Tablet}
 use Rattle.shard_names.specs.Tablets.{tablet_of}
-use Rattle.topo_lock.specs.Topology.{answer_take, answer_intend, answer_record}
+use Rattle.topo_lock.specs.Topology.{answer_take, answer_intend, answer_record, answer_drain}
 use Rattle.topo_lock.specs.declared.lock.LockTaken.{LockTaken}
 use Rattle.topo_lock.specs.declared.lock.TopoFault.{TopoFault}
 use Rattle.topo_lock.specs.declared.lock.TopoFault.TheVariants as faults
@@ -19,13 +17,12 @@ use Rattle.shard_calls.specs.Tablets.{TabletState, writes_local}
 use Rattle.shard_calls.specs.World.{Config, World, on_tablet, numbered, changed_at, if_open, with_act, next_message, open_command, term_of}
 use Rattle.shard_calls.specs.Messages.{why_given_up, offer_to}
 use Rattle.shard_calls.specs.Begins.{begun_state, ends_by}
-use Rattle.shard_calls.specs.Locks.{with_taken, takes_by, by_term, read_act, reads, with_intended, intends_in, with_recorded, records_in, as_released, releases_in}
+use Rattle.shard_calls.specs.Locks.{with_taken, takes_by, by_term, read_act, reads, with_intended, intends_in, with_recorded, with_drained, records_in, drains_in, as_released, releases_in}
 use Rattle.shard_calls.specs.Deliveries.{if_declared}
 use Rattle.shard_calls.specs.Writes.{with_written, write_verdict, writes_at, writes_in, tell_of, told_act, with_told}
-use Rattle.shard_calls.specs.Table.{after, world_after}
+use Rattle.shard_calls.specs.Table.{after}
 use Rattle.shard_calls.specs.declared.event.Event.{Event}
 use Rattle.shard_calls.specs.declared.event.Event.TheVariants as events
-use Rattle.shard_calls.specs.declared.event.Step.{Step}
 use Rattle.shard_calls.specs.declared.outcome.Written.{Written}
 use Rattle.shard_calls.specs.declared.outcome.Written.TheVariants as writtens
 use Rattle.shard_calls.specs.declared.state.Act.{Act}
@@ -96,6 +93,11 @@ recorded_keeps a (Ok u) s e = (e, refl)
 recorded_keeps a (Err (faults.LockLost current)) s e = (e, refl)
 recorded_keeps a (Err (faults.IntentStands b)) s e = (e, refl)
 
+drained_keeps : (a : Alias) (r : Result (Unit {0}) TopoFault) → KeepsMaker (with_drained a r)
+drained_keeps a (Ok u) s e = (e, refl)
+drained_keeps a (Err (faults.LockLost current)) s e = (e, refl)
+drained_keeps a (Err (faults.IntentStands b)) s e = (e, refl)
+
 written_keeps : (a : Alias) (old : TabletState) (r : Written) → KeepsMaker (with_written a old r)
 written_keeps a old (writtens.Entry g) s e = (e, refl)
 written_keeps a old (writtens.NotPrimary at) s e = (e, refl)
@@ -148,6 +150,8 @@ was config w (events.Intend b a) c y apart h runs =
     term_was w b (intends_in w b a) (λ t. with_intended a (answer_intend w.topo t a)) (term_of w b) c y (λ t. refl) (λ t. intended_keeps a (answer_intend w.topo t a)) h runs
 was config w (events.Record b a) c y apart h runs =
     term_was w b (records_in w b a) (λ t. with_recorded a (answer_record w.topo t)) (term_of w b) c y (λ t. refl) (λ t. recorded_keeps a (answer_record w.topo t)) h runs
+was config w (events.Drain b a) c y apart h runs =
+    term_was w b (drains_in w b a) (λ t. with_drained a (answer_drain w.topo t)) (term_of w b) c y (λ t. refl) (λ t. drained_keeps a (answer_drain w.topo t)) h runs
 was config w (events.Release b) c y apart h runs = term_was w b (releases_in w b) (λ t. as_released) (term_of w b) c y (λ t. refl) (λ t s e. (e, refl)) h runs
 was config w events.Lapse c y apart h runs = as_it_was _ y h runs
 was config w (events.Send b a call) c y apart h runs = command_was w b (with_act (acts.Sent (next_message w))) c y (λ s e. (e, refl)) h runs

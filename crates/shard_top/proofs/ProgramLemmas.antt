@@ -1,10 +1,10 @@
 -- What each move begins is what its actor is to do next.
-use Rattle.std.proofs.Common.{◌≡◌, ◌≢◌, ◌⊎◌, inl, inr, ℕ, zero, suc, ◌+◌, ◌-◌, ◌==◌, List, [], ◌∷◌, ◌++◌, Bool, true, false, cond, Option, Some, None, option_map, length, drop, refl, ap, sym, subst, ◌∙◌, arith}
+use Rattle.std.proofs.Common.{◌≡◌, ◌≢◌, ◌⊎◌, inl, inr, ℕ, zero, suc, ◌+◌, ◌-◌, ◌==◌, List, [], ◌∷◌, ◌++◌, Bool, true, false, cond, Option, Some, None, option_map, length, refl, ap, sym, subst, ◌∙◌, arith}
 use Rattle.std.proofs.lemmas.Bool.Decides.{nat_tests}
 use Rattle.std.specs.Bool.{⊤}
 use Rattle.std.specs.Str.{bytes_eq}
 use Rattle.std.specs.List.{AllByRecursion}
-use Rattle.std.proofs.lemmas.List.{append-nil, append_assoc}
+use Rattle.std.proofs.lemmas.List.{append-nil}
 use Rattle.std.proofs.lemmas.Slice.Eq.{bytes_eq-Decides}
 use Rattle.shard_calls.specs.World.{Config, World, main_name, numbered, open_of, open_command}
 use Rattle.shard_calls.specs.Begins.{is_in_time, names_declared, begun_state}
@@ -18,7 +18,7 @@ use Rattle.shard_names.specs.declared.alias.Alias.{Alias}
 use Rattle.shard_script.specs.declared.script.Action.{Action}
 use Rattle.shard_script.specs.declared.script.Action.TheVariants as actions
 use Rattle.shard_script.specs.Names.{started}
-use Rattle.shard_top.specs.Programs.{times, given_by, asks_for, asked_of, begun_by}
+use Rattle.shard_top.specs.Programs.{times, given_by, asks_for, begun_by}
 use Rattle.arrivals.specs.Arrivals.{next_due, next_offered}
 use Rattle.planned.specs.Course.{may, next, first_of as first_in}
 use Rattle.planned.specs.Follows.{maker_of}
@@ -126,6 +126,7 @@ maker_quiet (events.Take d) c is actor = refl
 maker_quiet (events.Read d) c is actor = refl
 maker_quiet (events.Intend d a) c is actor = refl
 maker_quiet (events.Record d a) c is actor = refl
+maker_quiet (events.Drain d a) c is actor = refl
 maker_quiet (events.Release d) c is actor = refl
 maker_quiet events.Lapse c is actor = refl
 maker_quiet (events.Send d a call) c is actor = refl

@@ -4,20 +4,16 @@ use Rattle.std.specs.Bool.{⊤}
 use Rattle.std.proofs.lemmas.List.{append_assoc}
 use Rattle.shard_base.specs.Options.{◌>>=◌}
 use Rattle.shard_calls.specs.World.{Config, World, main_name, numbered}
-use Rattle.shard_calls.specs.Table.{after, world_after, IsRun, IsRunFrom, IsStep}
+use Rattle.shard_calls.specs.Table.{after}
 use Rattle.shard_calls.specs.declared.command.Command.{Command}
 use Rattle.shard_calls.specs.declared.event.Event.{Event}
-use Rattle.shard_calls.specs.declared.event.Step.{Step}
 use Rattle.shard_script.specs.declared.script.Action.{Action}
 use Rattle.shard_script.specs.Names.{started, started_by}
-use Rattle.shard_top.specs.Programs.{asks_for, asked_of, begun_by, own}
+use Rattle.shard_top.specs.Programs.{asks_for, asked_of, begun_by}
 use Rattle.planned.specs.Course.{leaves}
 use Rattle.planned.specs.Pending.{FreeMayBegin}
 use Rattle.planned.proofs.FollowLemmas.{leaving_is_own}
-use Rattle.planned.proofs.PendingLemmas.{actors_fit_always}
-use Rattle.vtctld_text.specs.declared.note.RefusedAction.{RefusedAction}
 use Rattle.shard_top.specs.declared.player.Task.{Task}
-use Rattle.shard_top.specs.declared.player.Task.TheVariants as tasks
 use Rattle.shard_top.specs.declared.player.Player.{Player}
 use Rattle.shard_top.specs.declared.player.Go.{Go}
 use Rattle.shard_top.specs.declared.player.Go.TheVariants as goes
@@ -25,9 +21,8 @@ use Rattle.shard_top.specs.declared.player.Start.{Start}
 use Rattle.shard_top.specs.declared.player.Start.TheVariants as starts_as
 use Rattle.shard_top.specs.declared.player.Move.{Move}
 use Rattle.shard_top.specs.declared.player.Move.TheVariants as moves
-use Rattle.shard_top.specs.Played.{Want, wanted, wanting, move, Made, Stepped, Noted, steps_of, IsMade, Plays, world_by, player_by, player_after, command_of, played_at, go_on, starts, first_of, start_at, move_on, plain_move}
-use Rattle.shard_top.proofs.LongerLemmas.{made_on, world_more}
-use Rattle.shard_top.proofs.ProgramLemmas.{NoneOpen, MainHeld, none_after, held_after, AllNamed, named_map, named_both, maker_quiet, pending, TaskFits, GoesOn, IsIdle, OwnGo, go_own, LineFits, OwnStart, starts_own}
+use Rattle.shard_top.specs.Played.{Want, wanted, wanting, move, command_of, played_at, go_on, starts, first_of, start_at, move_on}
+use Rattle.shard_top.proofs.ProgramLemmas.{NoneOpen, MainHeld, none_after, held_after, AllNamed, named_map, named_both, maker_quiet, pending, TaskFits, GoesOn, OwnGo, go_own, LineFits, OwnStart, starts_own}
 
 abbrev pub AllFit : Config → List Action → Type 0
 AllFit config [] = ⊤

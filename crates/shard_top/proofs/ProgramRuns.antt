@@ -1,13 +1,10 @@
 -- What is played begins the commands of each actor in the order of its program, and where it is over all of them.
-use Rattle.std.proofs.Common.{◌≡◌, ◌≢◌, ℕ, zero, suc, ◌+◌, ◌==◌, List, [], ◌∷◌, ◌++◌, Bool, true, false, cond, Option, Some, None, length, drop, refl, ap, sym, subst, ◌∙◌}
+use Rattle.std.proofs.Common.{◌≡◌, ◌≢◌, ℕ, zero, suc, ◌==◌, List, [], ◌∷◌, ◌++◌, Bool, true, false, cond, Option, Some, None, length, refl, ap, sym, subst, ◌∙◌}
 use Rattle.std.specs.Prelude.{All}
-use Rattle.std.specs.Bool.{⊤}
 use Rattle.std.proofs.lemmas.List.{append_assoc, append-nil}
 use Rattle.std.proofs.lemmas.List.Elements.{All-head, All-tail}
 use Rattle.shard_base.specs.Lists.{IsFront}
-use Rattle.shard_names.specs.declared.alias.Alias.{Alias}
-use Rattle.shard_names.specs.declared.tablet.Tablet.{Tablet}
-use Rattle.shard_calls.specs.World.{Config, World, opening, open_command, main_name}
+use Rattle.shard_calls.specs.World.{Config, World, opening, main_name}
 use Rattle.shard_calls.specs.Begins.{names_declared}
 use Rattle.shard_calls.specs.Table.{after, world_after, IsRun, IsRunFrom, IsStep}
 use Rattle.shard_calls.specs.declared.command.Command.{Command}
@@ -18,7 +15,8 @@ use Rattle.shard_script.specs.declared.script.Action.{Action}
 use Rattle.shard_script.specs.declared.script.Action.TheVariants as actions
 use Rattle.shard_script.specs.declared.script.Script.{Script}
 use Rattle.shard_script.specs.Aliases.{aliases_in, IsDeclared, NamesDeclared}
-use Rattle.shard_script.specs.Names.{started, started_by, IsName, NamesDiffer}
+use Rattle.shard_script.specs.Names.{started, started_by, NamesDiffer}
+use Rattle.script_commands.specs.Words.{IsName}
 use Rattle.shard_script.specs.Script.{Fits, IsInTime}
 use Rattle.shard_script.proofs.DeclaredLemmas.{found}
 use Rattle.planned.specs.Pending.{FreeMayBegin}
@@ -31,10 +29,10 @@ use Rattle.shard_top.specs.declared.player.Move.TheVariants as moves
 use Rattle.shard_top.specs.declared.player.Stop.{Stop}
 use Rattle.shard_top.specs.declared.player.Stop.TheVariants as stops
 use Rattle.shard_top.specs.Played.{Want, move, Made, Stepped, Noted, steps_of, notes_of, IsMade, Plays, player_by, player_after, first_player, stop_by, config_of, world_by, IsRunOf}
-use Rattle.shard_top.specs.Programs.{asked_of, begun_by, own, program}
+use Rattle.shard_top.specs.Programs.{begun_by, own, program}
 use Rattle.shard_top.proofs.LongerLemmas.{world_more}
 use Rattle.shard_top.proofs.LawLemmas.{played_is_run, run_more}
-use Rattle.shard_top.proofs.ProgramLemmas.{NoneOpen, AllNamed, named_map, Beginnable, LineFits}
+use Rattle.shard_top.proofs.ProgramLemmas.{NoneOpen, AllNamed, named_map, LineFits}
 use Rattle.shard_top.proofs.ProgramMoves.{AllFit, Stands, OwnMove, move_own, named_tail}
 
 -- so much has begun, and so it stands
@@ -97,6 +95,7 @@ command_declared : (config : Config) (command : Command) → All (IsDeclared con
 command_declared config (commands.Planned shard given avoid expected timeout allow_cross_cell) h = refl
 command_declared config (commands.Emergency shard given ignored expected timeout prevent_cross_cell) h = refl
 command_declared config (commands.External a) h = refl
+command_declared config commands.Vtorc h = refl
 command_declared config (commands.Write None) h = refl
 command_declared config (commands.Write (Some a)) h = found config.tablets a (All-head (IsDeclared config.tablets) a [] h)
 command_declared config (commands.Show a) h = found config.tablets a (All-head (IsDeclared config.tablets) a [] h)
@@ -162,7 +161,7 @@ stands_first s f =
 begun : (s : Script) (wants : List Want) (made : List Made) (stop : Stop) → Fits s → IsRunOf s wants made stop
     → Begun (config_of s) (opening (config_of s)) s.actions (player_after (config_of s) wants s.actions (opening (config_of s)) first_player made) (steps_of made) (program s)
 begun s wants made stop f run =
-    begun_from (config_of s) wants s.actions [] (opening (config_of s)) first_player made (program s) refl tt (played_is_run s wants made run.played).0 run.played (stands_first s f)
+    begun_from (config_of s) wants s.actions [] (opening (config_of s)) first_player made (program s) refl tt (played_is_run s wants made f run.played).0 run.played (stands_first s f)
 
 -- what an actor has begun is a front of its program
 pub own_front : (s : Script) (wants : List Want) (made : List Made) (stop : Stop) → Fits s → IsRunOf s wants made stop → (actor : List ℕ) → IsFront (own (steps_of made) actor) (program s actor)
@@ -190,7 +189,7 @@ own_all s wants made stop f run over actor =
     let b = begun s wants made stop f run in
     let p : Player = player_after (config_of s) wants s.actions (opening (config_of s)) first_player made in
     let w : World = world_after (config_of s) (opening (config_of s)) (steps_of made) in
-    let free = (actors_fit_always (config_of s) (steps_of made) (played_is_run s wants made run.played).0).free in
+    let free = (actors_fit_always (config_of s) (steps_of made) (played_is_run s wants made f run.played).0).free in
     let none =
     none_later (config_of s) w s.actions (length (steps_of made)) (length (notes_of made)) (move (config_of s) wants s.actions w p) b.later
     (move_own (config_of s) wants w s.actions p b.later free b.stands) (subst (λ (v : Stop). stop_by (length (steps_of made)) (length (notes_of made)) (move (config_of s) wants s.actions w p) ≡ Some v) over run.stopped) actor in

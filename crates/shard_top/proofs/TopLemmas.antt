@@ -1,6 +1,7 @@
 -- The answer of the whole.
 use Rattle.std.proofs.Common.{◌≡◌, ◌≢◌, ℕ, ◌+◌, List, [], ◌++◌, length, Option, Some, None, Result, Ok, Err, IfOk, MatchResult, Vec, Global, refl, ap, sym, subst, ◌∙◌, arith}
-use Rattle.std.specs.Prelude.{IsOkAnd, IsTrue, nat_lt}
+use Rattle.std.specs.Prelude.{◌<◌, IsOkAnd, IsTrue, nat_lt, unwrap_or}
+use Rattle.std.proofs.lemmas.Bool.Decides.{nat_tests}
 use Rattle.std.proofs.lemmas.List.{append-nil}
 use Rattle.std.specs.Io.KnownBytes.{Appends}
 use Rattle.shard_base.specs.Lists.{IsFront}
@@ -14,20 +15,26 @@ use Rattle.shard_calls.specs.declared.event.Step.{Step}
 use Rattle.shard_script.specs.declared.script.Script.{Script}
 use Rattle.shard_script.specs.declared.script.ScriptFault.{ScriptFault}
 use Rattle.shard_script.specs.declared.script.ScriptFault.TheVariants as faults
-use Rattle.shard_script.specs.Script.{Fits, Gives, reading, front}
+use Rattle.script_faults.specs.declared.fault.Fault.{Fault}
+use Rattle.shard_script.specs.Faults.{Gives, first_fault}
+use Rattle.shard_script.specs.Script.{Fits, reading, front}
+use Rattle.shard_script.specs.Generator.{generated}
 use Rattle.shard_top.specs.declared.player.Stop.{Stop}
 use Rattle.shard_top.specs.declared.player.Stop.TheVariants as stops
 use Rattle.shard_top.specs.Memory.{NoneLacked, HasRunPlainly}
-use Rattle.shard_top.specs.Played.{Want, Made, steps_of, notes_of, notes_from, first_moment, config_of, IsRunOf}
+use Rattle.shard_top.specs.Played.{Want, Made, steps_of, notes_of, notes_from, first_moment, begins_at, config_of, IsRunOf}
 use Rattle.shard_top.specs.Playing.{HasRun, WasCutOff}
 use Rattle.shard_top.specs.Streams.{AppendsFront, WasRead}
-use Rattle.shard_top.specs.Program.{Answer, Answers, IsAnswerOf, IsAnswerToReading, IsAnswerBy, IsAnswerTo, fault_answer, no_config}
-use Rattle.shard_top.specs.Words.{usage_fault}
+use Rattle.shard_top.specs.Program.{Answer, Answers, IsAnswerOf, IsAnswerToReading, IsAnswerToText, IsAnswerBy, IsAnswerTo, fault_answer, no_config}
+use Rattle.shard_top.specs.declared.words.Asked.{Asked}
+use Rattle.shard_top.specs.declared.words.Asked.TheVariants as asks
+use Rattle.shard_top.specs.Words.{words_reading}
 use Rattle.shard_calls.specs.declared.event.Note.{Note}
-use Rattle.vtctld_text.specs.Notes.{text_with, AreInPlace}
-use Rattle.shard_top.specs.Texts.{usage_text, fault_text, stop_text, status_of}
+use Rattle.vtctld_text.specs.Notes.{AreInPlace}
+use Rattle.shard_top.specs.Texts.{told_of, usage_text, fault_text, stop_text, status_of}
 use Rattle.shard_script.proofs.ScriptLemmas.{fits_from}
 use Rattle.shard_top.proofs.LongerLemmas.{steps_append, notes_append}
+use Rattle.shard_top.proofs.StreamLemmas.{appends_none}
 use Rattle.shard_top.proofs.RestLemmas.{plays_to_stop}
 use Rattle.shard_top.proofs.LawLemmas.{notes_in_place}
 use Rattle.shard_top.proofs.WantLemmas.{runs_plainly}
@@ -35,10 +42,6 @@ use Rattle.shard_top.specs.Programs.{program, own}
 use Rattle.shard_top.proofs.ProgramRuns.{own_front, own_all}
 
 -- ---- nothing written, nothing kept
-
-appends_none : (o : Option (List ℕ)) → Appends o o []
-appends_none None = tt
-appends_none (Some o) = sym (append-nil o)
 
 pub front_none : (o : Option (List ℕ)) (bytes : List ℕ) → AppendsFront o o bytes
 front_none o bytes = (0, omega arith, appends_none o)
@@ -62,15 +65,28 @@ same_front : {A : Type 0} (xs whole : List A) → xs ≡ whole → IsFront xs wh
 same_front xs whole is = record { rest = []; split = sym is ∙ sym (append-nil xs) }
 
 -- the clock of a script begins before the year 9999
-pub begins_in_time : (n : ℕ) → n ≡ first_moment → IsTrue (nat_lt n 253370764800000)
+pub begins_in_time : (s : Script) (n : ℕ) → Fits s → n ≡ begins_at s → IsTrue (nat_lt n 253370764800000)
 unfolding first_moment
-begins_in_time n is = subst (λ (k : ℕ). IsTrue (nat_lt k 253370764800000)) (sym is) refl
+begins_in_time s n h same = by_clock s.clock refl
+  where
+    by_clock : (o : Option ℕ) → s.clock ≡ o → IsTrue (nat_lt n 253370764800000)
+    by_clock None is =
+        let at : n ≡ 1704067200000 = same ∙ ap (λ (o : Option ℕ). unwrap_or o 1704067200000) is in
+        grind (arith, nat_tests)
+    by_clock (Some m) is =
+        let at : n ≡ m = same ∙ ap (λ (o : Option ℕ). unwrap_or o 1704067200000) is in
+        let less : m < 221876928000000 = h.clock m is in
+        grind (arith, nat_tests)
 
 -- ---- the answer of a run
 
-abbrev made_answer : Script → Stop → List Step → List Note → Answer
-made_answer s stop history notes =
-    record { status = status_of stop history notes; config = config_of s; history = history; notes = notes; written = text_with history notes ++ stop_text stop }
+-- what is told of a history
+abbrev pub Told : Type 0
+Told = List Step → List Note → List ℕ
+
+abbrev made_answer : Script → Told → Stop → List Step → List Note → Answer
+made_answer s told stop history notes =
+    record { status = status_of stop history notes; config = config_of s; history = history; notes = notes; written = told history notes ++ stop_text stop }
 
 plainly : (s : Script) (stop : Stop) (history : List Step) (notes : List Note) → HasRun s history notes stop → stop ≢ stops.Full → NoneLacked history → HasRunPlainly s history notes stop
 plainly s stop history notes h not_full none = record {
@@ -80,8 +96,8 @@ plainly s stop history notes h not_full none = record {
   of_notes = h.of_notes;
 }
 
-is_made : (s : Script) (stop : Stop) (history : List Step) (notes : List Note) → Fits s → HasRun s history notes stop → IsAnswerOf s (made_answer s stop history notes)
-is_made s stop history notes fits run = record {
+is_made : (s : Script) (told : Told) (stop : Stop) (history : List Step) (notes : List Note) → Fits s → HasRun s history notes stop → IsAnswerOf s told (made_answer s told stop history notes)
+is_made s told stop history notes fits run = record {
   stop = stop;
   played = run;
   plain = plainly s stop history notes run;
@@ -105,24 +121,20 @@ stand_in_place s k steps notes stop is same run =
 abbrev SomeAnswer : (Answer → Type 0) → Type 0
 SomeAnswer P = (a : Answer) × P a × AreTablets a.config.tablets
 
-of_script : (s : Script) → Fits s → SomeAnswer (λ a. IsAnswerOf s a)
-of_script s h =
+of_script : (s : Script) (told : Told) → Fits s → SomeAnswer (λ a. IsAnswerOf s told a)
+of_script s told h =
     let w = plays_to_stop s [] [] (omega arith) (omega arith) tt in (
-      made_answer s w.1.0 (steps_of w.0) (notes_of w.0),
-      is_made s w.1.0 (steps_of w.0) (notes_of w.0) h (run_is s [] w.0 w.1.0 w.1.1),
+      made_answer s told w.1.0 (steps_of w.0) (notes_of w.0),
+      is_made s told w.1.0 (steps_of w.0) (notes_of w.0) h (run_is s [] w.0 w.1.0 w.1.1),
       h.tablets,
     )
 
-of_reading : (r : Result Script ℕ) → ((s : Script) → r ≡ Ok s → Fits s) → SomeAnswer (λ a. IsAnswerToReading r a)
-of_reading (Ok s) h = of_script s (h s refl)
-of_reading (Err place) h = (fault_answer 3 (fault_text place), refl, no_tablets)
+of_reading : (asked : Asked) (r : Result Script ℕ) (fault : Fault) → ((s : Script) → r ≡ Ok s → Fits s) → SomeAnswer (λ a. IsAnswerToReading asked r fault a)
+of_reading asked (Ok s) fault h = of_script s (told_of asked s) (h s refl)
+of_reading asked (Err place) fault h = (fault_answer 3 (fault_text place fault), refl, no_tablets)
 
-of_text : (text : List ℕ) → SomeAnswer (λ a. IsAnswerToReading (reading text) a)
-of_text text = of_reading (reading text) (λ s is. fits_from text s is)
-
-of_words : (o : Option (List ℕ)) (text : List ℕ) → SomeAnswer (λ a. IsAnswerBy o text a)
-of_words (Some word) text = (fault_answer 2 (usage_text word), refl, no_tablets)
-of_words None text = of_text text
+of_text : (asked : Asked) (text : List ℕ) → SomeAnswer (λ a. IsAnswerToText asked text a)
+of_text asked text = of_reading asked (reading text) (first_fault text) (λ s is. fits_from text s is)
 
 -- ---- want of memory
 
@@ -145,27 +157,22 @@ gave_up_by : (P : Answer → Type 0) (calm : Type 0) (status : ℕ) (history : L
     → Answered P calm status history notes o o
 gave_up_by P calm status history notes o some is none unnoted = (some.0, some.1, gave_up some.0 calm status history notes o is none unnoted some.2)
 
-pub gave_up_script : (s : Script) (calm : Type 0) (status : ℕ) (history : List Step) (notes : List Note) (o : Option (List ℕ)) → Fits s → status ≡ 6 → history ≡ [] → notes ≡ []
-    → Answered (λ a. IsAnswerOf s a) calm status history notes o o
-gave_up_script s calm status history notes o h is none unnoted = gave_up_by (λ a. IsAnswerOf s a) calm status history notes o (of_script s h) is none unnoted
+pub gave_up_script : (s : Script) (told : Told) (calm : Type 0) (status : ℕ) (history : List Step) (notes : List Note) (o : Option (List ℕ)) → Fits s → status ≡ 6 → history ≡ [] → notes ≡ []
+    → Answered (λ a. IsAnswerOf s told a) calm status history notes o o
+gave_up_script s told calm status history notes o h is none unnoted = gave_up_by (λ a. IsAnswerOf s told a) calm status history notes o (of_script s told h) is none unnoted
 
-pub gave_up_text : (text : List ℕ) (calm : Type 0) (status : ℕ) (history : List Step) (notes : List Note) (o : Option (List ℕ)) → status ≡ 6 → history ≡ [] → notes ≡ []
-    → Answered (λ a. IsAnswerToReading (reading text) a) calm status history notes o o
-gave_up_text text calm status history notes o is none unnoted = gave_up_by (λ a. IsAnswerToReading (reading text) a) calm status history notes o (of_text text) is none unnoted
-
-pub gave_up_words : (words : List (List ℕ)) (text : List ℕ) (calm : Type 0) (status : ℕ) (history : List Step) (notes : List Note) (o : Option (List ℕ)) → status ≡ 6 → history ≡ [] → notes ≡ []
-    → Answered (λ a. IsAnswerTo words text a) calm status history notes o o
-gave_up_words words text calm status history notes o is none unnoted =
-    gave_up_by (λ a. IsAnswerTo words text a) calm status history notes o (of_words (usage_fault words) text) is none unnoted
+pub gave_up_text : (asked : Asked) (text : List ℕ) (calm : Type 0) (status : ℕ) (history : List Step) (notes : List Note) (o : Option (List ℕ)) → status ≡ 6 → history ≡ [] → notes ≡ []
+    → Answered (λ a. IsAnswerToText asked text a) calm status history notes o o
+gave_up_text asked text calm status history notes o is none unnoted = gave_up_by (λ a. IsAnswerToText asked text a) calm status history notes o (of_text asked text) is none unnoted
 
 -- memory ran out while the script was played
-gave_up_playing : (s : Script) (calm : Type 0) (history : List Step) (notes : List Note) (o : Option (List ℕ)) → Fits s → WasCutOff s history notes → IsSafe (config_of s) history
-    → Answered (λ a. IsAnswerOf s a) calm 6 history notes o o
-gave_up_playing s calm history notes o fits cut safe =
+gave_up_playing : (s : Script) (told : Told) (calm : Type 0) (history : List Step) (notes : List Note) (o : Option (List ℕ)) → Fits s → WasCutOff s history notes → IsSafe (config_of s) history
+    → Answered (λ a. IsAnswerOf s told a) calm 6 history notes o o
+gave_up_playing s told calm history notes o fits cut safe =
     let w = plays_to_stop s cut.wants cut.made cut.cut.few cut.cut.few_notes cut.cut.played in
     let whole : List Made = cut.made ++ w.0 in (
-      made_answer s w.1.0 (steps_of whole) (notes_of whole),
-      is_made s w.1.0 (steps_of whole) (notes_of whole) fits (run_is s cut.wants whole w.1.0 w.1.1),
+      made_answer s told w.1.0 (steps_of whole) (notes_of whole),
+      is_made s told w.1.0 (steps_of whole) (notes_of whole) fits (run_is s cut.wants whole w.1.0 w.1.1),
       record {
         whole = λ c no6. absurd (no6 refl);
         kept = λ no6. absurd (no6 refl);
@@ -174,15 +181,15 @@ gave_up_playing s calm history notes o fits cut safe =
           rest = notes_from (0 + length (steps_of cut.made)) w.0;
           split = notes_append 0 cut.made w.0 ∙ ap (λ (ns : List Note). ns ++ notes_from (0 + length (steps_of cut.made)) w.0) cut.of_notes;
         };
-        written = front_none o (text_with (steps_of whole) (notes_of whole) ++ stop_text w.1.0);
+        written = front_none o (told (steps_of whole) (notes_of whole) ++ stop_text w.1.0);
         safe = safe;
       },
     )
 
-pub gave_up_by_playing : (s : Script) (calm : Type 0) (k : Kept) (history : List Step) (notes : List Note) (o : Option (List ℕ)) → Fits s → history ≡ k.steps → notes ≡ k.notes → k.config ≡ config_of s
-    → IsSafe k.config history → WasCutOff s k.steps k.notes → Answered (λ a. IsAnswerOf s a) calm 6 history notes o o
-gave_up_by_playing s calm k history notes o fits is same config safe cut =
-    gave_up_playing s calm history notes o fits (subst (λ (ns : List Note). WasCutOff s history ns) (sym same) (subst (λ (ss : List Step). WasCutOff s ss k.notes) (sym is) cut)) (subst (λ (c : Config). IsSafe c history) config safe)
+pub gave_up_by_playing : (s : Script) (told : Told) (calm : Type 0) (k : Kept) (history : List Step) (notes : List Note) (o : Option (List ℕ)) → Fits s → history ≡ k.steps → notes ≡ k.notes → k.config ≡ config_of s
+    → IsSafe k.config history → WasCutOff s k.steps k.notes → Answered (λ a. IsAnswerOf s told a) calm 6 history notes o o
+gave_up_by_playing s told calm k history notes o fits is same config safe cut =
+    gave_up_playing s told calm history notes o fits (subst (λ (ns : List Note). WasCutOff s history ns) (sym same) (subst (λ (ss : List Step). WasCutOff s ss k.notes) (sym is) cut)) (subst (λ (c : Config). IsSafe c history) config safe)
 
 -- ---- the whole
 
@@ -192,12 +199,12 @@ pub told_part : (r : Result (Vec ℕ Global) OutOfMemory) (o n : Option (List �
 told_part (Ok t) o n bytes text part = subst (λ (bs : List ℕ). AppendsFront o n bs) text part
 told_part (Err e) o n bytes text part = subst (λ (k : Option (List ℕ)). AppendsFront o k bytes) (sym part) (front_none o bytes)
 
-told_all : (s : Script) (stop : Stop) (calm : Type 0) (status : ℕ) (played history : List Step) (noted notes : List Note) (o n : Option (List ℕ)) → Fits s → HasRun s played noted stop → history ≡ played
-    → notes ≡ noted → IsSafe (config_of s) played → (calm → status ≢ 6 → (status ≡ status_of stop played noted) × Appends o n (text_with played noted ++ stop_text stop))
-    → AppendsFront o n (text_with played noted ++ stop_text stop) → Answered (λ a. IsAnswerOf s a) calm status history notes o n
-told_all s stop calm status played history noted notes o n fits run is same safe said part = (
-  made_answer s stop played noted,
-  is_made s stop played noted fits run,
+told_all : (s : Script) (told : Told) (stop : Stop) (calm : Type 0) (status : ℕ) (played history : List Step) (noted notes : List Note) (o n : Option (List ℕ)) → Fits s → HasRun s played noted stop → history ≡ played
+    → notes ≡ noted → IsSafe (config_of s) played → (calm → status ≢ 6 → (status ≡ status_of stop played noted) × Appends o n (told played noted ++ stop_text stop))
+    → AppendsFront o n (told played noted ++ stop_text stop) → Answered (λ a. IsAnswerOf s told a) calm status history notes o n
+told_all s told stop calm status played history noted notes o n fits run is same safe said part = (
+  made_answer s told stop played noted,
+  is_made s told stop played noted fits run,
   record {
     whole = said;
     kept = λ no6. (is, same);
@@ -208,12 +215,12 @@ told_all s stop calm status played history noted notes o n fits run is same safe
   },
 )
 
-pub told_by : (s : Script) (stop : Stop) (calm : Type 0) (status : ℕ) (k : Kept) (played history : List Step) (noted notes : List Note) (o n : Option (List ℕ)) → Fits s → played ≡ k.steps
+pub told_by : (s : Script) (told : Told) (stop : Stop) (calm : Type 0) (status : ℕ) (k : Kept) (played history : List Step) (noted notes : List Note) (o n : Option (List ℕ)) → Fits s → played ≡ k.steps
     → noted ≡ k.notes → k.config ≡ config_of s → IsSafe k.config played → HasRun s k.steps k.notes stop → history ≡ played → notes ≡ noted
-    → (calm → status ≢ 6 → (status ≡ status_of stop played noted) × Appends o n (text_with played noted ++ stop_text stop)) → AppendsFront o n (text_with played noted ++ stop_text stop)
-    → Answered (λ a. IsAnswerOf s a) calm status history notes o n
-told_by s stop calm status k played history noted notes o n fits same as_noted config safe run is kept said part =
-    told_all s stop calm status played history noted notes o n fits
+    → (calm → status ≢ 6 → (status ≡ status_of stop played noted) × Appends o n (told played noted ++ stop_text stop)) → AppendsFront o n (told played noted ++ stop_text stop)
+    → Answered (λ a. IsAnswerOf s told a) calm status history notes o n
+told_by s told stop calm status k played history noted notes o n fits same as_noted config safe run is kept said part =
+    told_all s told stop calm status played history noted notes o n fits
     (subst (λ (ns : List Note). HasRun s played ns stop) (sym as_noted) (subst (λ (ss : List Step). HasRun s ss k.notes stop) (sym same) run)) is kept (subst (λ (c : Config). IsSafe c played) config safe) said
     part
 
@@ -238,32 +245,47 @@ said_fault a calm status history notes o n (Err e) empty bare h none unnoted tex
   safe = safe_none a.config history none h;
 }
 
-pub gives_line : (e : ScriptFault) (r : Result Script ℕ) (place : ℕ) → e ≡ faults.Line place → Gives (Err e) r → r ≡ Err place
-gives_line e r place is h = subst (λ (v : ScriptFault). Gives (Err v) r) is h
+pub gives_line : (e : ScriptFault) (r : Result Script ℕ) (f : Fault) (place : ℕ) (fault : Fault) → e ≡ faults.Line place fault → Gives (Err e) r f → (r ≡ Err place) × (fault ≡ f)
+gives_line e r f place fault is h = subst (λ (v : ScriptFault). Gives (Err v) r f) is h
 
-pub said_line : (text : List ℕ) (place : ℕ) (calm : Type 0) (status : ℕ) (history : List Step) (notes : List Note) (o n : Option (List ℕ)) (r : Result (Vec ℕ Global) OutOfMemory)
-    → reading text ≡ Err place → history ≡ [] → notes ≡ [] → IfOk r (λ t. t.items ≡ fault_text place) → (calm → status ≢ 6 → IsOkAnd r (λ t. (status ≡ 3) × Appends o n t.items))
-    → MatchResult r (λ t. AppendsFront o n t.items) (λ _. n ≡ o) → Answered (λ a. IsAnswerToReading (reading text) a) calm status history notes o n
-said_line text place calm status history notes o n r is none unnoted written said part = (
-  fault_answer 3 (fault_text place),
-  subst (λ (v : Result Script ℕ). IsAnswerToReading v (fault_answer 3 (fault_text place))) (sym is) refl,
-  said_fault (fault_answer 3 (fault_text place)) calm status history notes o n r refl refl no_tablets none unnoted written said part,
+pub said_line : (asked : Asked) (text : List ℕ) (place : ℕ) (fault : Fault) (calm : Type 0) (status : ℕ) (history : List Step) (notes : List Note) (o n : Option (List ℕ)) (r : Result (Vec ℕ Global) OutOfMemory)
+    → (reading text ≡ Err place) × (fault ≡ first_fault text) → history ≡ [] → notes ≡ [] → IfOk r (λ t. t.items ≡ fault_text place fault)
+    → (calm → status ≢ 6 → IsOkAnd r (λ t. (status ≡ 3) × Appends o n t.items))
+    → MatchResult r (λ t. AppendsFront o n t.items) (λ _. n ≡ o) → Answered (λ a. IsAnswerToText asked text a) calm status history notes o n
+said_line asked text place fault calm status history notes o n r is none unnoted written said part = (
+  fault_answer 3 (fault_text place fault),
+  subst (λ (v : Result Script ℕ). IsAnswerToReading asked v (first_fault text) (fault_answer 3 (fault_text place fault))) (sym is.0)
+      (ap (λ (f : Fault). fault_answer 3 (fault_text place f)) is.1),
+  said_fault (fault_answer 3 (fault_text place fault)) calm status history notes o n r refl refl no_tablets none unnoted written said part,
 )
 
 pub said_usage : (words : List (List ℕ)) (text word : List ℕ) (calm : Type 0) (status : ℕ) (history : List Step) (notes : List Note) (o n : Option (List ℕ)) (r : Result (Vec ℕ Global) OutOfMemory)
-    → usage_fault words ≡ Some word → history ≡ [] → notes ≡ [] → IfOk r (λ t. t.items ≡ usage_text word) → (calm → status ≢ 6 → IsOkAnd r (λ t. (status ≡ 2) × Appends o n t.items))
+    → words_reading words ≡ Err word → history ≡ [] → notes ≡ [] → IfOk r (λ t. t.items ≡ usage_text word) → (calm → status ≢ 6 → IsOkAnd r (λ t. (status ≡ 2) × Appends o n t.items))
     → MatchResult r (λ t. AppendsFront o n t.items) (λ _. n ≡ o) → Answered (λ a. IsAnswerTo words text a) calm status history notes o n
 said_usage words text word calm status history notes o n r is none unnoted written said part = (
   fault_answer 2 (usage_text word),
-  subst (λ (v : Option (List ℕ)). IsAnswerBy v text (fault_answer 2 (usage_text word))) (sym is) refl,
+  subst (λ (v : Result Asked (List ℕ)). IsAnswerBy v text (fault_answer 2 (usage_text word))) (sym is) refl,
   said_fault (fault_answer 2 (usage_text word)) calm status history notes o n r refl refl no_tablets none unnoted written said part,
 )
 
--- words with a reading leave the answer to the text
-pub read_words : (words : List (List ℕ)) (text : List ℕ) (calm : Type 0) (status : ℕ) (history : List Step) (notes : List Note) (o n : Option (List ℕ)) → usage_fault words ≡ None
-    → Answered (λ a. IsAnswerToReading (reading text) a) calm status history notes o n → Answered (λ a. IsAnswerTo words text a) calm status history notes o n
-read_words words text calm status history notes o n is h =
-    (h.0, subst (λ (v : Option (List ℕ)). IsAnswerBy v text h.0) (sym is) h.1, h.2)
+-- so does `step --history`
+pub history_words : (words : List (List ℕ)) (text : List ℕ) (calm : Type 0) (status : ℕ) (history : List Step) (notes : List Note) (o n : Option (List ℕ)) → words_reading words ≡ Ok asks.History
+    → Answered (λ a. IsAnswerToText asks.History text a) calm status history notes o n → Answered (λ a. IsAnswerTo words text a) calm status history notes o n
+history_words words text calm status history notes o n is h =
+    (h.0, subst (λ (v : Result Asked (List ℕ)). IsAnswerBy v text h.0) (sym is) h.1, h.2)
+
+-- `step` leaves the answer to the text
+pub step_words : (words : List (List ℕ)) (text : List ℕ) (calm : Type 0) (status : ℕ) (history : List Step) (notes : List Note) (o n : Option (List ℕ)) → words_reading words ≡ Ok asks.Step
+    → Answered (λ a. IsAnswerToText asks.Step text a) calm status history notes o n → Answered (λ a. IsAnswerTo words text a) calm status history notes o n
+step_words words text calm status history notes o n is h =
+    (h.0, subst (λ (v : Result Asked (List ℕ)). IsAnswerBy v text h.0) (sym is) h.1, h.2)
+
+-- `gen` leaves it to the rounds
+pub gen_words : (words : List (List ℕ)) (text : List ℕ) (rounds : ℕ) (calm : Type 0) (status : ℕ) (history : List Step) (notes : List Note) (o n : Option (List ℕ))
+    → words_reading words ≡ Ok (asks.Gen rounds) → Answered (λ a. IsAnswerOf (generated rounds) (told_of (asks.Gen rounds) (generated rounds)) a) calm status history notes o n
+    → Answered (λ a. IsAnswerTo words text a) calm status history notes o n
+gen_words words text rounds calm status history notes o n is h =
+    (h.0, subst (λ (v : Result Asked (List ℕ)). IsAnswerBy v text h.0) (sym is) h.1, h.2)
 
 -- ---- the text that was read, or could have been
 

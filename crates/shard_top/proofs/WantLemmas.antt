@@ -1,5 +1,5 @@
 -- A run that is over or blocked, in which no command was refused for want of memory, is the run that wants no memory.
-use Rattle.std.proofs.Common.{◌≡◌, ◌≢◌, ℕ, zero, suc, ◌+◌, List, [], ◌∷◌, Bool, true, false, not, cond, ◌&&◌, nat_le, ◌⊎◌, inl, inr, Option, Some, None, is_some, length, refl, ap, sym, subst, ◌∙◌, arith}
+use Rattle.std.proofs.Common.{◌≡◌, ◌≢◌, ℕ, zero, suc, List, [], ◌∷◌, Bool, true, false, not, cond, ◌&&◌, nat_le, ◌⊎◌, inl, inr, Option, Some, None, is_some, length, refl, ap, sym, subst, ◌∙◌, arith}
 use Rattle.std.specs.List.{find, slice_get}
 use Rattle.std.proofs.lemmas.Bool.{false≢true}
 use Rattle.std.proofs.lemmas.Bool.Decides.{nat_tests}

@@ -3,6 +3,7 @@ use Rattle.std.specs.Prelude.{◌≡◌, ◌≢◌, ◌≤◌, List, [], ◌++�
 use Rattle.shard_calls.specs.World.{opening}
 use Rattle.shard_calls.specs.Table.{IsRun}
 use Rattle.shard_script.specs.declared.script.Script.{Script}
+use Rattle.shard_script.specs.Script.{Fits}
 use Rattle.planned.specs.Follows.{FollowCourses}
 use Rattle.vtctld_text.specs.Notes.{AreInPlace}
 use Rattle.shard_top.specs.declared.player.Stop.{Stop}
@@ -29,10 +30,10 @@ RunsPlainly =
     (s : Script) (wants : List Want) (made : List Made) (stop : Stop) → stop ≢ stops.Full → NoneLacked (steps_of made) → IsRunOf s wants made stop
     → IsRunOf s [] made stop
 
--- the steps of what is played are a run of the machine, in which commands keep to their courses
+-- the steps of what a script plays that fits are a run of the machine, in which commands keep to their courses
 abbrev pub PlayedIsRun : Type 0
 PlayedIsRun =
-    (s : Script) (wants : List Want) (made : List Made) → IsPlayed s wants made
+    (s : Script) (wants : List Want) (made : List Made) → Fits s → IsPlayed s wants made
     → IsRun (config_of s) (steps_of made) × FollowCourses (config_of s) (opening (config_of s)) (steps_of made)
 
 -- the notes stand in the order of their places, and none behind the last step

@@ -1,5 +1,5 @@
 -- What want of memory leaves in a history: a command that was refused for it.
-use Rattle.std.specs.Prelude.{◌≡◌, Bool, true, false, List, [], ◌∷◌, ⊤}
+use Rattle.std.specs.Prelude.{◌≡◌, Bool, false, List, [], ◌∷◌, ⊤}
 use Rattle.shard_calls.specs.Causes.{is_want_of_memory}
 use Rattle.shard_calls.specs.declared.ending.CommandAnswer.{CommandAnswer}
 use Rattle.shard_calls.specs.declared.ending.CommandAnswer.TheVariants as answers
@@ -11,12 +11,13 @@ use Rattle.shard_script.specs.declared.script.Script.{Script}
 use Rattle.shard_top.specs.declared.player.Stop.{Stop}
 use Rattle.shard_top.specs.Played.{Made, steps_of, notes_of, IsRunOf}
 
--- whether this is a refusal for want of memory
+-- Whether this is a refusal for want of memory. A vtorc that lacks memory is refused as a whole, and has no other line.
 abbrev pub is_lacking : CommandAnswer → Bool
 is_lacking (answers.Promoted a term left) = false
 is_lacking (answers.NothingToDo a) = false
 is_lacking (answers.Recorded term) = false
 is_lacking (answers.Refused refusal tried) = is_want_of_memory refusal
+is_lacking (answers.Vtorc findings rest) = false
 is_lacking (answers.Committed g a term) = false
 is_lacking (answers.NotPrimary a stand) = false
 is_lacking answers.NoPrimaryRecorded = false
@@ -32,6 +33,7 @@ ends_lacking (events.Take c) = false
 ends_lacking (events.Read c) = false
 ends_lacking (events.Intend c a) = false
 ends_lacking (events.Record c a) = false
+ends_lacking (events.Drain c a) = false
 ends_lacking (events.Release c) = false
 ends_lacking events.Lapse = false
 ends_lacking (events.Send c a call) = false

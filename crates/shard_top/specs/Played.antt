@@ -1,6 +1,6 @@
 -- The one run that a script asks for: its lines in order, each with what it sets going, event by event, and the notes of lines that were
 -- refused.
-use Rattle.std.specs.Prelude.{◌≡◌, ◌≤◌, ℕ, ◌+◌, ◌-◌, ◌==◌, ◌&&◌, true, nat_le, List, [], ◌∷◌, length, drop, Option, Some, None, is_some, option_map, if◌then◌else◌, ⊤}
+use Rattle.std.specs.Prelude.{◌≡◌, ◌≤◌, ℕ, ◌+◌, ◌-◌, ◌==◌, ◌&&◌, true, nat_le, List, [], ◌∷◌, length, drop, Option, Some, None, is_some, option_map, unwrap_or, if◌then◌else◌, ⊤}
 use Rattle.std.specs.List.{find}
 use Rattle.shard_base.specs.Options.{◌>>=◌}
 use Rattle.shard_calls.specs.World.{Config, World, opening, main_name, numbered, open_of, open_command}
@@ -292,9 +292,13 @@ stop_by steps noted (moves.Makes e q) = if steps == 1000000 then Some stops.Full
 unfoldable pub first_moment : ℕ
 first_moment = 1704067200000
 
+-- the moment at which the clock begins: the one that is declared, if one is
+abbrev pub begins_at : Script → ℕ
+begins_at s = unwrap_or s.clock first_moment
+
 -- the configuration that a script declares
 abbrev pub config_of : Script → Config
-config_of s = record { tablets = s.tablets; policy = s.policy; moment = first_moment }
+config_of s = record { tablets = s.tablets; policy = s.policy; moment = begins_at s }
 
 -- before the first line
 abbrev pub first_player : Player

@@ -8,6 +8,7 @@ mod player;
 mod playing;
 mod sink;
 mod source;
+mod telling;
 mod texts;
 mod top;
 mod words;

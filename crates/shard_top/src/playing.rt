@@ -9,7 +9,7 @@ ghost use Rattle.planned.specs.Laws.{NextIsMet};
 ghost use Rattle.shard_script.specs.declared.script.Action.{Action as Line};
 ghost use Rattle.shard_top.specs.declared.player.Move.TheVariants as moves;
 ghost use Rattle.shard_top.specs.declared.player.Player.{Player as Stands};
-ghost use Rattle.shard_top.specs.Played.{first_moment, config_of, plain_move, IsOfNone, Lacks};
+ghost use Rattle.shard_top.specs.Played.{begins_at, config_of, plain_move, IsOfNone, Lacks};
 ghost use Rattle.vtctld_text.specs.Notes.{action_text};
 ghost use Rattle.shard_top.specs.Playing.{with_note, still_open, Playing, IsStopped, IsCut, IsTurn, HasRun, WasCutOff};
 
@@ -20,12 +20,15 @@ use shard_core::{MOST_STEPS, Refused, Shard};
 use shard_script::{Action, Script};
 use vtctld_text::{RefusedAction, action_line};
 
-/// The moment at which the clock begins: 2024-01-01T00:00:00Z, in milliseconds since the start of 1970.
+/// 2024-01-01T00:00:00Z, in milliseconds since the start of 1970.
+const FIRST_MOMENT: u64 = 1_704_067_200_000;
+
+/// The moment at which the clock of a script begins: the one that it declares, or else the start of 2024.
 #[tactic(auto, unfolding(crate::specs::Played::first_moment))]
-pub(crate) fn first_moment() -> u64
-    ensures { result ≡ first_moment }
+pub(crate) fn begins_at(script: &Script) -> u64
+    ensures { result ≡ begins_at script.now }
 {
-    1704067200000
+    script.clock.unwrap_or(FIRST_MOMENT)
 }
 
 /// What a turn comes to: one event was made, or none comes any more.
@@ -51,6 +54,7 @@ fn maker_of(event: &Event) -> Option<u64>
         Event::Read { command } => Some(*command),
         Event::Intend { command, .. } => Some(*command),
         Event::Record { command, .. } => Some(*command),
+        Event::Drain { command, .. } => Some(*command),
         Event::Release { command } => Some(*command),
         Event::Lapse => None,
         Event::Send { command, .. } => Some(*command),

@@ -36,11 +36,11 @@ pub enum ReadFault {
 }
 
 /// The most bytes of a script, and one more.
-const PAST_MOST_BYTES: usize = 65537;
+const PAST_MOST_BYTES: usize = 1048577;
 
 /// Adds the next bytes to the text, and says how many.
 fn read_some<S: Source>(source: &mut S, text: &mut Vec<u8>) -> Result<usize, ReadFault>
-    requires { length text.old.items < 65537 }
+    requires { length text.old.items < 1048577 }
     ensures bytes { IfOk result (λ n. Reads (S.left source.old) (S.left source.new) text.old.items text.new.items n) }
     ensures lost { OnErr result (ConsumesFront (S.left source.old) (S.left source.new)) }
     ensures calm { OnOk result (S.faults source.new ≡ S.faults source.old) }
@@ -64,8 +64,8 @@ fn read_some<S: Source>(source: &mut S, text: &mut Vec<u8>) -> Result<usize, Rea
 pub fn read_all<S: Source>(alloc: Global, source: &mut S) -> Result<Vec<u8>, ReadFault>
     ensures bytes { IfOk result (λ text. WasRead (S.left source.old) text.items) }
     ensures taken { IfOk result (λ text. Consumes (S.left source.old) (S.left source.new) text.items) }
-    ensures size { IfOk result (λ text. length text.items ≤ 65537) }
-    ensures ended { IfOk result (λ text. length text.items ≤ 65536 → IsAtEnd (S.left source.new)) }
+    ensures size { IfOk result (λ text. length text.items ≤ 1048577) }
+    ensures ended { IfOk result (λ text. length text.items ≤ 1048576 → IsAtEnd (S.left source.new)) }
     ensures lost { OnErr result (ConsumesFront (S.left source.old) (S.left source.new)) }
 
     // The count of faults rises only where the source failed.

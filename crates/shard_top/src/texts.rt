@@ -1,15 +1,16 @@
 ghost use Rattle.std.specs.Prelude.{◌≡◌, ◌<◌, ◌⊎◌, ◌++◌, IfOk, OnOk};
 ghost use Rattle.std.specs.Fmt.{decimal};
-ghost use Rattle.vtctld_text.specs.Notes.{text_with, AreInPlace};
+ghost use Rattle.vtctld_text.specs.Summary.{summary_text};
 ghost use Rattle.shard_top.specs.Texts.{blocked_text, full_text, stop_text, status_of, usage_text, fault_text, read_fault_text};
 ghost use Rattle.shard_top.specs.declared.player.Stop.TheVariants as stops;
 
 use crate::player::Stop;
 use itoa::Buffer;
+use script_faults::Fault;
 use shard_base::OutOfMemory;
 use shard_calls::{Note, Step};
 use std::alloc::Global;
-use vtctld_text::{has_refusal_with, text_with};
+use vtctld_text::{has_refusal_with, write_summary};
 
 /// Appends the decimal digits.
 fn write_number(number: u64, into: &mut Vec<u8>) -> Result<(), OutOfMemory>
@@ -48,17 +49,20 @@ fn write_stop(stop: &Stop, into: &mut Vec<u8>) -> Result<(), OutOfMemory>
     }
 }
 
-/// The text of a history with its notes, and behind it why the run stops, if it is not over.
-pub fn run_text(
-    alloc: Global,
-    steps: &[Step],
-    notes: &[Note],
-    stop: &Stop,
-) -> Result<Vec<u8>, OutOfMemory>
-    requires { AreInPlace steps.now notes.now }
-    ensures { IfOk result (λ text. text.items ≡ text_with steps.now notes.now ++ stop_text stop.now) }
+/// The line of a rehearsal of so many rounds.
+pub(crate) fn summary_of(alloc: Global, rounds: u64, steps: &[Step]) -> Result<Vec<u8>, OutOfMemory>
+    ensures { IfOk result (λ text. text.items ≡ summary_text rounds steps.now) }
 {
-    let mut text = text_with(alloc, steps, notes)?;
+    let mut text = Vec::new(alloc);
+    write_summary(rounds, steps, &mut text)?;
+    Ok(text)
+}
+
+/// Why a run stops, if it is not over.
+pub(crate) fn stop_of(alloc: Global, stop: &Stop) -> Result<Vec<u8>, OutOfMemory>
+    ensures { IfOk result (λ text. text.items ≡ stop_text stop.now) }
+{
+    let mut text = Vec::new(alloc);
     write_stop(stop, &mut text)?;
     Ok(text)
 }
@@ -95,15 +99,16 @@ pub fn usage_text(alloc: Global, word: &[u8]) -> Result<Vec<u8>, OutOfMemory>
     Ok(text)
 }
 
-/// What is said of a script without a reading. Until the whole language is read there is one code.
+/// What is said of a script without a reading: the first line that may not stand there, and its fault.
 #[tactic(auto, unfolding(crate::specs::Texts::fault_text))]
-pub fn fault_text(alloc: Global, line: u64) -> Result<Vec<u8>, OutOfMemory>
-    ensures { IfOk result (λ text. text.items ≡ fault_text line) }
+pub fn fault_text(alloc: Global, line: u64, fault: Fault) -> Result<Vec<u8>, OutOfMemory>
+    ensures { IfOk result (λ text. text.items ≡ fault_text line fault) }
 {
     let mut text = Vec::new(alloc);
     text.extend_from_slice(b"script fault: line ")?;
     write_number(line, &mut text)?;
-    text.extend_from_slice(b" code 13")?;
+    text.extend_from_slice(b" code ")?;
+    write_number(fault.code() as u64, &mut text)?;
     text.push(b'\n')?;
     Ok(text)
 }

@@ -49,7 +49,7 @@ PlannedReparentShard commerce/0 --new-primary zone1-100
 fn a_fault_is_on_its_line(rt: HostRuntime) -> Result<(), Fail> {
     let rows = [Row {
         script: &["shard commerce/0 none\njump\n"],
-        printed: "script fault: line 2 code 13\n",
+        printed: "script fault: line 2 code 1\n",
         status: 3,
     }];
     plays(&rt, rt.alloc(), &rows)
@@ -79,13 +79,13 @@ write: committed 00000000-0000-4000-8000-000000000100:3 on zone1-0000000100 in t
         // They are counted.
         Row {
             script: &["# A story.\n\n", THREE_REPLICAS, "write 1 # twice\n"],
-            printed: "script fault: line 7 code 13\n",
+            printed: "script fault: line 7 code 1\n",
             status: 3,
         },
         // Nothing stands in a comment that may not stand in a script.
         Row {
             script: &["# café\n"],
-            printed: "script fault: line 1 code 13\n",
+            printed: "script fault: line 1 code 1\n",
             status: 3,
         },
     ];
@@ -173,8 +173,8 @@ fn a_history_has_more_than_a_thousand_steps(rt: HostRuntime) -> Result<(), Fail>
 }
 
 #[test]
-fn a_script_has_a_thousand_lines(rt: HostRuntime) -> Result<(), Fail> {
-    let lines = repeated(rt.alloc(), "settle\n", 999)?;
+fn a_script_has_twenty_thousand_lines(rt: HostRuntime) -> Result<(), Fail> {
+    let lines = repeated(rt.alloc(), "settle\n", 19_999)?;
     let rows = [
         Row {
             script: &["shard commerce/0 none\n", lines.as_str()],
@@ -183,7 +183,7 @@ fn a_script_has_a_thousand_lines(rt: HostRuntime) -> Result<(), Fail> {
         },
         Row {
             script: &["shard commerce/0 none\n", lines.as_str(), "settle\n"],
-            printed: "script fault: line 1001 code 13\n",
+            printed: "script fault: line 20001 code 8\n",
             status: 3,
         },
     ];
@@ -199,16 +199,15 @@ tablet cccccccccccccccccccccccccccccccc-4294967295 replica 00000000-0000-4000-80
 const LONG_LINE: &str =
     "crash cccccccccccccccccccccccccccccccc-4294967295 keep 18446744073709551615\n";
 
+/// A line of 57 bytes.
+const SHORT_LINE: &str = "crash cccccccccccccccccccccccccccccccc-4294967295 keep 1\n";
+
 #[test]
-fn a_script_has_65536_bytes(rt: HostRuntime) -> Result<(), Fail> {
-    let lines = repeated(rt.alloc(), LONG_LINE, 860)?;
+fn a_script_has_1048576_bytes(rt: HostRuntime) -> Result<(), Fail> {
+    let lines = repeated(rt.alloc(), LONG_LINE, 13_794)?;
     let rows = [
         Row {
-            script: &[
-                LONG_ALIAS,
-                lines.as_str(),
-                "crash cccccccccccccccccccccccccccccccc-4294967295 keep 10\n",
-            ],
+            script: &[LONG_ALIAS, lines.as_str(), SHORT_LINE, SHORT_LINE],
             printed: "",
             status: 0,
         },
@@ -216,9 +215,10 @@ fn a_script_has_65536_bytes(rt: HostRuntime) -> Result<(), Fail> {
             script: &[
                 LONG_ALIAS,
                 lines.as_str(),
-                "crash cccccccccccccccccccccccccccccccc-4294967295 keep 100\n",
+                SHORT_LINE,
+                "crash cccccccccccccccccccccccccccccccc-4294967295 keep 10\n",
             ],
-            printed: "script fault: line 863 code 13\n",
+            printed: "script fault: line 13798 code 8\n",
             status: 3,
         },
     ];

@@ -6,12 +6,18 @@
 #[cfg(test)]
 mod edge_tests;
 #[cfg(test)]
+mod gen_tests;
+#[cfg(test)]
+mod history_tests;
+#[cfg(test)]
 mod policy_tests;
 #[cfg(test)]
 mod reparent_tests;
 mod streams;
 #[cfg(test)]
 mod tests;
+#[cfg(test)]
+mod watch_tests;
 mod words;
 
 use crate::streams::Counted;

@@ -14,39 +14,40 @@ tablet zone1-102 replica 00000000-0000-4000-8000-000000000102
 ";
 
 /// What is done to them.
-const FIRST_RUN: &str = "PlannedReparentShard commerce/0 --new-primary zone1-100
+pub(crate) const FIRST_RUN: &str = "PlannedReparentShard commerce/0 --new-primary zone1-100
 write 3
 ";
 
-const FIRST_ANSWERS: &str = "PlannedReparentShard commerce/0: promoted zone1-0000000100 in term 1
+pub(crate) const FIRST_ANSWERS: &str =
+    "PlannedReparentShard commerce/0: promoted zone1-0000000100 in term 1
 write: committed 00000000-0000-4000-8000-000000000100:2 on zone1-0000000100 in term 1
 write: committed 00000000-0000-4000-8000-000000000100:3 on zone1-0000000100 in term 1
 write: committed 00000000-0000-4000-8000-000000000100:4 on zone1-0000000100 in term 1
 ";
 
-/// A run of `step` over these streams: its status, and what was written.
+/// A run over these streams: its status, and what was written.
 #[derive(Drop)]
-struct Ran {
-    status: u8,
-    written: Vec<u8>,
+pub(crate) struct Ran {
+    pub(crate) status: u8,
+    pub(crate) written: Vec<u8>,
 }
 
 /// Pieces of at most `piece` bytes a call, and the calls that fail.
 #[derive(Clone, Copy)]
-struct Streams<'a> {
+pub(crate) struct Streams<'a> {
     piece: u64,
     source_fails: &'a [u64],
     sink_fails: &'a [u64],
 }
 
 /// Whole pieces, and no call that fails.
-const WHOLE: Streams<'static> = Streams {
+pub(crate) const WHOLE: Streams<'static> = Streams {
     piece: 65536,
     source_fails: &[],
     sink_fails: &[],
 };
 
-fn run(
+pub(crate) fn run(
     alloc: Global,
     program_words: &[&str],
     script: &[&str],
@@ -488,17 +489,17 @@ fn other_lines_are_faults(rt: HostRuntime) -> Result<(), Fail> {
     let rows = [
         Row {
             script: &["jump\n"],
-            printed: "script fault: line 1 code 13\n",
+            printed: "script fault: line 1 code 1\n",
             status: 3,
         },
         Row {
-            script: &[THREE_REPLICAS, FIRST_RUN, "write 101"],
-            printed: "script fault: line 7 code 13\n",
+            script: &[THREE_REPLICAS, FIRST_RUN, "write 10001"],
+            printed: "script fault: line 7 code 8\n",
             status: 3,
         },
         Row {
             script: &[THREE_REPLICAS, FIRST_RUN, THREE_REPLICAS],
-            printed: "script fault: line 7 code 13\n",
+            printed: "script fault: line 7 code 10\n",
             status: 3,
         },
     ];

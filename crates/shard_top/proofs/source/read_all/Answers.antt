@@ -4,7 +4,7 @@ use Rattle.shard_top.proofs.source.read_all.Goals as goal
 
 pub returns-clause-bytes : goal.returns-clause-bytes
 returns-clause-bytes g c =
-    let full : length c.loop-source.text.items ≡ 65537 = omega (arith, c.loop-source.invariant.within, c.len.ensures, c.loop-source-test.false) in
+    let full : length c.loop-source.text.items ≡ 1048577 = omega (arith, c.loop-source.invariant.within, c.len.ensures, c.loop-source-test.false) in
     was_read_in_full _ _ _ c.loop-source.invariant.read full
 
 pub returns-then-branch-eq0-clause-bytes : goal.returns-then-branch-eq0-clause-bytes

@@ -1,0 +1,10 @@
+pub mod LineLemmas
+pub mod PieceLemmas
+pub mod StepLemmas
+pub mod WordLemmas
+pub mod PartLemmas
+pub mod MomentLemmas
+pub mod SetLemmas
+pub mod CommandLemmas
+pub mod ToldLemmas
+pub mod ReplyLemmas
