@@ -3,28 +3,41 @@
 ghost use Rattle.std.specs.Prelude.{◌≡◌};
 ghost use Rattle.script_faults.specs.Faults.{rank, code, earlier, unless};
 
+use thiserror::Error;
+
 /// What is wrong with a line.
-#[derive(Clone, Copy, Debug, PartialEq, Eq)]
+#[derive(Clone, Copy, Debug, PartialEq, Eq, Error)]
 pub enum Fault {
     /// A limit is passed.
+    #[error("a limit is passed")]
     Limit,
     /// A word or a byte is unknown.
+    #[error("an unknown word or byte")]
     Unknown,
     /// Such a line stands in other modes.
+    #[error("a line of another mode")]
     OtherMode,
     /// A declaration stands behind the first action.
+    #[error("a declaration behind the first action")]
     Late,
     /// An option, a number, a name or the count of words is bad.
+    #[error("a bad option, number, name or count of words")]
     Malformed,
+    #[error("a bad alias")]
     BadAlias,
+    #[error("an unknown policy")]
     UnknownPolicy,
     /// A UUID is bad.
+    #[error("a bad UUID")]
     BadServer,
     /// A moment or a duration is bad.
+    #[error("a bad moment or duration")]
     BadTime,
     /// It is declared twice.
+    #[error("declared twice")]
     Twice,
     /// It is not declared.
+    #[error("not declared")]
     Undeclared,
 }
 

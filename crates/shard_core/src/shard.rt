@@ -32,16 +32,20 @@ use shard_state::{Fields, manager_of, open_command, open_of, tablet_of};
 use std::alloc::Global;
 use std::marker::Model;
 use tablet_manager::Manager;
+use thiserror::Error;
 use topo_lock::{Intent, Record, Topo};
 
 /// Why the machine made no step. It then stands as it was.
-#[derive(Clone, Copy, Debug, PartialEq, Eq)]
+#[derive(Clone, Copy, Debug, PartialEq, Eq, Error)]
 pub enum Refused {
     /// The condition of the event's row does not hold. The rows are Begin 1, Take 2, Read 3, Intend 4, Record 5, Drain 6, Release 7,
     /// Lapse 8, Send 9, Deliver 10, GiveUp 11, Offer 12, Write 13, Tell 14, Local 15, Crash 16, Restart 17, Cut and Mend 18, Lose 19, Tick 20, End 22.
+    #[error("the condition of row {row} does not hold")]
     Unmet { row: u8 },
     /// The history has all the steps that it may have.
+    #[error("the history is full")]
     Full,
+    #[error("out of memory")]
     OutOfMemory,
 }
 

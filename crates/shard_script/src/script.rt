@@ -16,6 +16,7 @@ use shard_base::{Items, OutOfMemory};
 use shard_calls::{Command, Side};
 use shard_names::{Alias, Name, ShardName, Tablet};
 use std::alloc::Global;
+use thiserror::Error;
 use uuid::Uuid;
 
 /// What a script asks for.
@@ -66,10 +67,12 @@ pub struct Script {
 }
 
 /// Why a text is no script.
-#[derive(Clone, Copy, Debug, PartialEq, Eq)]
+#[derive(Clone, Copy, Debug, PartialEq, Eq, Error)]
 pub enum ScriptFault {
     /// The first line that may not stand there, from 1, and what is wrong with it.
+    #[error("a fault in line {line}")]
     Line { line: u64, fault: Fault },
+    #[error("out of memory")]
     OutOfMemory,
 }
 

@@ -45,7 +45,7 @@ record EndsBy (config : Config) (wants : List Want) (lines : List Action) (w : W
   plays : Plays config wants lines w p made
   stopped : stop_by whole noted (move config wants lines (world_after config w (steps_of made)) (player_after config wants lines w p made)) ≡ Some stop
 
-full_by_test : (n : ℕ) (stop : Stop) (b : Bool) → (n == 1000000) ≡ b → cond b (Some stops.Full) None ≡ Some stop → n ≡ 1000000
+pub full_by_test : (n : ℕ) (stop : Stop) (b : Bool) → (n == 1000000) ≡ b → cond b (Some stops.Full) None ≡ Some stop → n ≡ 1000000
 full_by_test n stop true full is = grind (arith, nat_tests)
 full_by_test n stop false full is = absurd (let none : None ≡ Some stop = is in cc)
 
@@ -162,7 +162,7 @@ wanting_fair : (config : Config) (w : World) (lines : List Action) (p : Player) 
 wanting_fair config w lines p None opened next course = plain_fair config w lines p next
 wanting_fair config w lines p (Some m) opened next course = leaves_fair config w m.command (open_command w m.command) refl (opened m refl) course
 
-want_opened : (w : World) (noted : ℕ) (wants : List Want) (m : Want) → wanted w noted wants ≡ Some m → is_some (open_command w m.command) ≡ true
+pub want_opened : (w : World) (noted : ℕ) (wants : List Want) (m : Want) → wanted w noted wants ≡ Some m → is_some (open_command w m.command) ≡ true
 want_opened w noted wants m is = both_right (nat_le m.steps (length w.past) && nat_le m.notes noted) (is_some (open_command w m.command)) (found _ wants m is)
 
 move_fair : (config : Config) (wants : List Want) (lines : List Action) (w : World) (p : Player) → NextIsMet config w → CourseIsMet config w → FairMove config w (move config wants lines w p)
@@ -212,7 +212,7 @@ keeps_from config wants lines done p (Stepped s ∷ made) time run h =
     let back : Keep config (after config w s.event) (steps_of made) = subst (λ (v : World). Keep config v (steps_of made)) (sym next) r in
     ((step, back.0), (fair.of_course, back.1)))
 
-begins_in_time : (s : Script) → Fits s → BeginsInTime (config_of s)
+pub begins_in_time : (s : Script) → Fits s → BeginsInTime (config_of s)
 unfolding first_moment
 begins_in_time s h = by_clock s.clock refl
   where

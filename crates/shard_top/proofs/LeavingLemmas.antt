@@ -73,7 +73,7 @@ may_open : (config : Config) (w : World) (c : ℕ) (e : Event) (n : ℕ) (o : Op
 may_open config w c e n None is = absurd (let none : ◌≡◌ {A = Option Event} None (Some e) = is in cc)
 may_open config w c e n (Some s) is = refl
 
-course_open : (config : Config) (w : World) (c : ℕ) (e : Event) → IsOfCourse config w c e → is_some (open_command w c) ≡ true
+pub course_open : (config : Config) (w : World) (c : ℕ) (e : Event) → IsOfCourse config w c e → is_some (open_command w c) ≡ true
 course_open config w c e (Goes n is) = may_open config w c e n (open_command w c) is
 course_open config w c e (Leaves s found is) = ap (λ (o : Option CommandState). is_some o) found
 

@@ -13,5 +13,10 @@ pub mod TopLemmas
 pub mod LawLemmas
 pub mod WantLemmas
 pub mod ProgramRuns
+pub mod ClockLemmas
+pub mod BecameLemmas
+pub mod BecameRuns
+pub mod FreedLemmas
+pub mod CourseLemmas
 pub mod WordLemmas
 pub mod TellingLemmas

@@ -3,7 +3,6 @@ use Rattle.std.proofs.Common.{◌≡◌, ◌≢◌, ◌⊎◌, inl, inr, ℕ, ze
 use Rattle.std.proofs.lemmas.Bool.Decides.{nat_tests}
 use Rattle.std.specs.Bool.{⊤}
 use Rattle.std.specs.Str.{bytes_eq}
-use Rattle.std.specs.List.{AllByRecursion}
 use Rattle.std.proofs.lemmas.List.{append-nil}
 use Rattle.std.proofs.lemmas.Slice.Eq.{bytes_eq-Decides}
 use Rattle.shard_calls.specs.World.{Config, World, main_name, numbered, open_of, open_command}
@@ -20,11 +19,10 @@ use Rattle.shard_script.specs.declared.script.Action.TheVariants as actions
 use Rattle.shard_script.specs.Names.{started}
 use Rattle.shard_top.specs.Programs.{times, given_by, asks_for, begun_by}
 use Rattle.arrivals.specs.Arrivals.{next_due, next_offered}
-use Rattle.planned.specs.Course.{may, next, first_of as first_in}
+use Rattle.planned.specs.Course.{next}
 use Rattle.planned.specs.Follows.{maker_of}
 use Rattle.planned.specs.Leaving.{or_else}
 use Rattle.planned.specs.Pending.{FreeMayBegin}
-use Rattle.planned.proofs.FollowLemmas.{may_is_own}
 use Rattle.vtctld_text.specs.declared.note.RefusedAction.{RefusedAction}
 use Rattle.vtctld_text.specs.declared.note.RefusedAction.TheVariants as refusals
 use Rattle.shard_top.specs.declared.player.Task.{Task}
@@ -34,6 +32,7 @@ use Rattle.shard_top.specs.declared.player.Go.TheVariants as goes
 use Rattle.shard_top.specs.declared.player.Start.{Start}
 use Rattle.shard_top.specs.declared.player.Start.TheVariants as starts_as
 use Rattle.shard_top.specs.Played.{delivery, offer, arrival, pump, asked, gives, turned, finished, turns_on, finishes_on, command_of, played_at, gives_by, gives_on, settles, go_on, turn_of, finish_of, unless_refused, starts}
+use Rattle.shard_top.proofs.FairLemmas.{next_made}
 use Rattle.shard_top.proofs.OwnLemmas.{was_open, runs_if_open, open_if_runs}
 
 -- ---- who has a command open
@@ -147,31 +146,35 @@ maker_quiet (events.End d answer) c is actor = refl
 same_event : (x e : Event) → ◌≡◌ {A = Option Event} (Some x) (Some e) → x ≡ e
 same_event x e h = cc
 
-first_made : (c : ℕ) (xs : List Event) (e : Event) → AllByRecursion (λ x. maker_of x ≡ Some c) xs → first_in xs ≡ Some e → maker_of e ≡ Some c
-first_made c [] e h is = absurd (let none : ◌≡◌ {A = Option Event} None (Some e) = is in cc)
-first_made c (x ∷ xs) e h is = subst (λ (v : Event). maker_of v ≡ Some c) (same_event x e is) h.0
+-- what is true of all that a command makes, and of what comes of itself, is true of what a pump makes
+delivery_is : (P : Event → Type 0) → ((k : ℕ) → P (events.Deliver k)) → (o : Option ℕ) (e : Event) → option_map (λ k. events.Deliver k) o ≡ Some e → P e
+delivery_is P come None e is = absurd (let none : ◌≡◌ {A = Option Event} None (Some e) = is in cc)
+delivery_is P come (Some k) e is = subst (λ (v : Event). P v) (same_event (events.Deliver k) e is) (come k)
 
-delivery_quiet : (o : Option ℕ) (e : Event) → option_map (λ k. events.Deliver k) o ≡ Some e → Quiet e
-delivery_quiet None e is = absurd (let none : ◌≡◌ {A = Option Event} None (Some e) = is in cc)
-delivery_quiet (Some k) e is = subst (λ (v : Event). Quiet v) (same_event (events.Deliver k) e is) (λ actor. refl)
+offer_is : (P : Event → Type 0) → ((a : Alias) → P (events.Offer a)) → (o : Option Alias) (e : Event) → option_map (λ a. events.Offer a) o ≡ Some e → P e
+offer_is P offered None e is = absurd (let none : ◌≡◌ {A = Option Event} None (Some e) = is in cc)
+offer_is P offered (Some a) e is = subst (λ (v : Event). P v) (same_event (events.Offer a) e is) (offered a)
 
-offer_quiet : (o : Option Alias) (e : Event) → option_map (λ a. events.Offer a) o ≡ Some e → Quiet e
-offer_quiet None e is = absurd (let none : ◌≡◌ {A = Option Event} None (Some e) = is in cc)
-offer_quiet (Some a) e is = subst (λ (v : Event). Quiet v) (same_event (events.Offer a) e is) (λ actor. refl)
+pub arrival_is : (config : Config) (w : World) (P : Event → Type 0) → ((k : ℕ) → P (events.Deliver k)) → ((a : Alias) → P (events.Offer a)) → (e : Event) → arrival config w ≡ Some e → P e
+arrival_is config w P come offered e is = by_delivery (delivery w) refl is
+  where
+    by_delivery : (o : Option Event) → delivery w ≡ o → or_else o (offer config w) ≡ Some e → P e
+    by_delivery None none h = offer_is P offered (next_offered config w) e h
+    by_delivery (Some x) some h = delivery_is P come (next_due w) e (some ∙ h)
 
-arrival_by : (config : Config) (w : World) (o : Option Event) (e : Event) → delivery w ≡ o → or_else o (offer config w) ≡ Some e → Quiet e
-arrival_by config w None e none is = offer_quiet (next_offered config w) e is
-arrival_by config w (Some x) e some is = delivery_quiet (next_due w) e (some ∙ is)
+pub pump_is : (config : Config) (w : World) (P : Event → Type 0) → ((k : ℕ) → P (events.Deliver k)) → ((a : Alias) → P (events.Offer a)) → (c : ℕ)
+    → ((e : Event) → next config w c ≡ Some e → P e) → (e : Event) → pump config w c ≡ Some e → P e
+pump_is config w P come offered c made e is = by_next (next config w c) refl is
+  where
+    by_next : (o : Option Event) → next config w c ≡ o → or_else o (arrival config w) ≡ Some e → P e
+    by_next None none h = arrival_is config w P come offered e h
+    by_next (Some x) some h = made e (some ∙ h)
 
 arrival_quiet : (config : Config) (w : World) (e : Event) → arrival config w ≡ Some e → Quiet e
-arrival_quiet config w e is = arrival_by config w (delivery w) e refl is
-
-pump_by : (config : Config) (w : World) (c : ℕ) (o : Option Event) (e : Event) → next config w c ≡ o → or_else o (arrival config w) ≡ Some e → Quiet e
-pump_by config w c None e none is = arrival_quiet config w e is
-pump_by config w c (Some x) e some is = maker_quiet e c (first_made c (may config w c) e (may_is_own config w c) (some ∙ is))
+arrival_quiet config w e is = arrival_is config w Quiet (λ k actor. refl) (λ a actor. refl) e is
 
 pump_quiet : (config : Config) (w : World) (c : ℕ) (e : Event) → pump config w c ≡ Some e → Quiet e
-pump_quiet config w c e is = pump_by config w c (next config w c) e refl is
+pump_quiet config w c e is = pump_is config w Quiet (λ k actor. refl) (λ a actor. refl) c (λ v h. maker_quiet v c (next_made config w c v h)) e is
 
 -- ---- tasks
 

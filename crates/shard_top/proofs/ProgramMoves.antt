@@ -52,7 +52,7 @@ drop_suc [] (suc k) x xs h = absurd (let none : ◌≡◌ {A = List Action} [] (
 drop_suc (y ∷ ys) zero x xs h = cc
 drop_suc (y ∷ ys) (suc k) x xs h = drop_suc ys k x xs h
 
-drop_next : (all : List Action) (k : ℕ) (x : Action) (xs : List Action) → drop k all ≡ x ∷ xs → drop (k + 1) all ≡ xs
+pub drop_next : (all : List Action) (k : ℕ) (x : Action) (xs : List Action) → drop k all ≡ x ∷ xs → drop (k + 1) all ≡ xs
 drop_next all k x xs h = let one : suc k ≡ k + 1 = omega arith in subst (λ (n : ℕ). drop n all ≡ xs) one (drop_suc all k x xs h)
 
 -- the line before the next place is the one at this place

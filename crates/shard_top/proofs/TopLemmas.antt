@@ -40,6 +40,10 @@ use Rattle.shard_top.proofs.LawLemmas.{notes_in_place}
 use Rattle.shard_top.proofs.WantLemmas.{runs_plainly}
 use Rattle.shard_top.specs.Programs.{program, own}
 use Rattle.shard_top.proofs.ProgramRuns.{own_front, own_all}
+use Rattle.shard_top.specs.Accounts.{Became, FrontBecame}
+use Rattle.shard_top.specs.Courses.{KeepCourses}
+use Rattle.shard_top.proofs.CourseLemmas.{keep_courses}
+use Rattle.shard_top.proofs.BecameRuns.{front_became, all_became}
 
 -- ---- nothing written, nothing kept
 
@@ -106,6 +110,14 @@ is_made s told stop history notes fits run = record {
   written = refl;
   own_front = λ actor. subst (λ (ss : List Step). IsFront (own ss actor) (program s actor)) run.of_steps (own_front s run.wants run.made stop fits run.run actor);
   own_all = λ over actor. subst (λ (ss : List Step). own ss actor ≡ program s actor) run.of_steps (own_all s run.wants run.made stop fits run.run over actor);
+  lines_front =
+      subst (λ (ss : List Step). FrontBecame s.actions ss notes) run.of_steps
+      (subst (λ (ns : List Note). FrontBecame s.actions (steps_of run.made) ns) run.of_notes (front_became s run.wants run.made stop fits run.run));
+  lines_all =
+      λ over.
+      subst (λ (ss : List Step). Became s.actions ss notes) run.of_steps
+      (subst (λ (ns : List Note). Became s.actions (steps_of run.made) ns) run.of_notes (all_became s run.wants run.made stop fits run.run over));
+  courses = subst (λ (ss : List Step). KeepCourses (config_of s) ss) run.of_steps (keep_courses s run.wants run.made stop fits run.run);
 }
 
 run_is : (s : Script) (wants : List Want) (made : List Made) (stop : Stop) → IsRunOf s wants made stop → HasRun s (steps_of made) (notes_of made) stop

@@ -1,5 +1,5 @@
 -- A run that is over or blocked, in which no command was refused for want of memory, is the run that wants no memory.
-use Rattle.std.proofs.Common.{◌≡◌, ◌≢◌, ℕ, zero, suc, List, [], ◌∷◌, Bool, true, false, not, cond, ◌&&◌, nat_le, ◌⊎◌, inl, inr, Option, Some, None, is_some, length, refl, ap, sym, subst, ◌∙◌, arith}
+use Rattle.std.proofs.Common.{◌≡◌, ◌≢◌, ℕ, zero, suc, List, [], ◌∷◌, ◌≤◌, Bool, true, false, not, cond, ◌&&◌, nat_le, ◌⊎◌, inl, inr, Option, Some, None, is_some, length, refl, ap, sym, subst, ◌∙◌, arith}
 use Rattle.std.specs.List.{find, slice_get}
 use Rattle.std.proofs.lemmas.Bool.{false≢true}
 use Rattle.std.proofs.lemmas.Bool.Decides.{nat_tests}
@@ -27,7 +27,7 @@ use Rattle.shard_top.specs.Played.{Want, wanted, wanting, move, Made, Stepped, N
 use Rattle.shard_top.specs.Memory.{ends_lacking, NoneLacked}
 use Rattle.shard_top.specs.Laws.{RunsPlainly}
 use Rattle.shard_top.proofs.LongerLemmas.{past_after, made_on, made_with, world_on}
-use Rattle.shard_top.proofs.LawLemmas.{found}
+use Rattle.shard_top.proofs.LawLemmas.{found, want_opened}
 
 -- ---- a command that frees the lock is open still
 
@@ -67,19 +67,23 @@ left_part : (a b : Bool) → (a && b) ≡ true → a ≡ true
 left_part true b h = refl
 left_part false b h = h
 
-wanted_still : (config : Config) (w : World) (noted : ℕ) (wants : List Want) (m : Want) → wanted w noted wants ≡ Some m
-    → is_some (wanted (after config w (events.Release m.command)) noted wants) ≡ true
-wanted_still config w noted wants m is =
-    let v : World = after config w (events.Release m.command) in
+-- and later, while the command is open
+pub wanted_later : (w v : World) (noted : ℕ) (wants : List Want) (m : Want) → wanted w noted wants ≡ Some m → length w.past ≤ length v.past → is_some (open_command v m.command) ≡ true
+    → is_some (wanted v noted wants) ≡ true
+wanted_later w v noted wants m is more opened =
     let all = found _ wants m is in
     let come = left_part (nat_le m.steps (length w.past) && nat_le m.notes noted) (is_some (open_command w m.command)) all in
     let before : nat_le m.steps (length w.past) ≡ true = left_part (nat_le m.steps (length w.past)) (nat_le m.notes noted) come in
-    let one = past_after config w (events.Release m.command) in
     let later : nat_le m.steps (length v.past) ≡ true = grind (arith, nat_tests) in
     still_found _ _ wants m is
     (both (nat_le m.steps (length v.past) && nat_le m.notes noted) (is_some (open_command v m.command))
-    (both (nat_le m.steps (length v.past)) (nat_le m.notes noted) later (both_right (nat_le m.steps (length w.past)) (nat_le m.notes noted) come))
-    (is_open_still config w m.command (both_right (nat_le m.steps (length w.past) && nat_le m.notes noted) (is_some (open_command w m.command)) all)))
+    (both (nat_le m.steps (length v.past)) (nat_le m.notes noted) later (both_right (nat_le m.steps (length w.past)) (nat_le m.notes noted) come)) opened)
+
+wanted_still : (config : Config) (w : World) (noted : ℕ) (wants : List Want) (m : Want) → wanted w noted wants ≡ Some m
+    → is_some (wanted (after config w (events.Release m.command)) noted wants) ≡ true
+wanted_still config w noted wants m is =
+    let one = past_after config w (events.Release m.command) in
+    wanted_later w (after config w (events.Release m.command)) noted wants m is (omega (arith, one)) (is_open_still config w m.command (want_opened w noted wants m is))
 
 -- it frees the lock, or ends refused
 frees_or_ends : (w : World) (c : ℕ) → (leaves w c ≡ events.Release c) ⊎ (ends_lacking (leaves w c) ≡ true)
@@ -96,12 +100,12 @@ frees_or_ends w c = of_state (open_command w c)
 
 -- ---- moves
 
-abbrev Stops : Config → List Want → List Action → ℕ → ℕ → Stop → World → Player → List Made → Type 0
+abbrev pub Stops : Config → List Want → List Action → ℕ → ℕ → Stop → World → Player → List Made → Type 0
 Stops config wants lines n j stop w p made =
     stop_by n j (move config wants lines (world_after config w (steps_of made)) (player_after config wants lines w p made)) ≡ Some stop
 
 -- the rest of what is played, behind the first move
-next_stops : (config : Config) (wants : List Want) (lines : List Action) (w : World) (p : Player) (n j : ℕ) (stop : Stop) (x : Made) (made : List Made) (u : Move)
+pub next_stops : (config : Config) (wants : List Want) (lines : List Action) (w : World) (p : Player) (n j : ℕ) (stop : Stop) (x : Made) (made : List Made) (u : Move)
     → move config wants lines w p ≡ u → Plays config wants lines w p (x ∷ made) → Stops config wants lines n j stop w p (x ∷ made)
     → Plays config wants lines (world_by config w u) (player_by p u) made × Stops config wants lines n j stop (world_by config w u) (player_by p u) made
 next_stops config wants lines w p n j stop x made u is h stopped =
@@ -113,12 +117,12 @@ next_stops config wants lines w p n j stop x made u is h stopped =
       subst (λ (y : World). stop_by n j (move config wants lines y q) ≡ Some stop) (world_on config w v x made (λ y r. Plays config wants lines y r made) h) stopped,
     )
 
-event_made : (config : Config) (w : World) (m : Move) (e : Event) (p : Player) (s : Step) (P : World → Player → Type 0) → m ≡ moves.Makes e p → IsMade config w m (Stepped s) P → s.event ≡ e
+pub event_made : (config : Config) (w : World) (m : Move) (e : Event) (p : Player) (s : Step) (P : World → Player → Type 0) → m ≡ moves.Makes e p → IsMade config w m (Stepped s) P → s.event ≡ e
 event_made config w m e p s P is h =
     let made : IsMade config w (moves.Makes e p) (Stepped s) P = subst (λ (v : Move). IsMade config w v (Stepped s) P) is h in
     ap (λ (t : Step). t.event) made.0
 
-no_note : (config : Config) (w : World) (m : Move) (e : Event) (p : Player) (r : RefusedAction) (P : World → Player → Type 0) → m ≡ moves.Makes e p → IsMade config w m (Noted r) P → ⊥
+pub no_note : (config : Config) (w : World) (m : Move) (e : Event) (p : Player) (r : RefusedAction) (P : World → Player → Type 0) → m ≡ moves.Makes e p → IsMade config w m (Noted r) P → ⊥
 no_note config w m e p r P is h = subst (λ (v : Move). IsMade config w v (Noted r) P) is h
 
 full_stop : (n j : ℕ) (e : Event) (p : Player) (stop : Stop) → stop_by n j (moves.Makes e p) ≡ Some stop → stop ≡ stops.Full
@@ -128,7 +132,7 @@ full_stop n j e p stop h = of_test _ h
     of_test true is = cc
     of_test false is = absurd (let none : None ≡ Some stop = is in cc)
 
-some_of : {A : Type 0} (o : Option A) → is_some o ≡ true → (x : A) × (o ≡ Some x)
+pub some_of : {A : Type 0} (o : Option A) → is_some o ≡ true → (x : A) × (o ≡ Some x)
 some_of None h = absurd (false≢true h)
 some_of (Some x) h = (x, refl)
 

@@ -5,5 +5,7 @@ pub mod Playing
 pub mod Texts
 pub mod Words
 pub mod Programs
+pub mod Accounts
+pub mod Courses
 pub mod Program
 pub mod Laws

@@ -18,6 +18,8 @@ use Rattle.shard_calls.specs.declared.event.Note.{Note}
 use Rattle.shard_top.specs.Played.{first_moment, config_of}
 use Rattle.shard_top.specs.Playing.{HasRun}
 use Rattle.shard_top.specs.Programs.{program, own}
+use Rattle.shard_top.specs.Accounts.{Became, FrontBecame}
+use Rattle.shard_top.specs.Courses.{KeepCourses}
 use Rattle.shard_top.specs.Texts.{told_of, stop_text, status_of, usage_text, fault_text}
 use Rattle.shard_top.specs.declared.words.Asked.{Asked}
 use Rattle.shard_top.specs.declared.words.Asked.TheVariants as asks
@@ -48,6 +50,11 @@ pub record IsAnswerOf (s : Script) (told : List Step → List Note → List ℕ)
   -- each actor has begun its commands in order, and all of them where the script is over
   pub own_front : (actor : List ℕ) → IsFront (own a.history actor) (program s actor)
   pub own_all : stop ≡ stops.Over → (actor : List ℕ) → own a.history actor ≡ program s actor
+  -- and each line that is one event by itself became its step or its note, a front of them, and all where the script is over
+  pub lines_front : FrontBecame s.actions a.history a.notes
+  pub lines_all : stop ≡ stops.Over → Became s.actions a.history a.notes
+  -- and commands keep to their courses
+  pub courses : KeepCourses a.config a.history
 
 -- nothing is played, this is the status, and this is written
 abbrev pub fault_answer : ℕ → List ℕ → Answer

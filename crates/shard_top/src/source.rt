@@ -6,9 +6,11 @@ ghost use Rattle.shard_base.specs.Faults.{HasCause, Rose};
 ghost use Rattle.shard_top.specs.Streams.{WasRead, Reads, ConsumesFront};
 
 use std::alloc::Global;
+use thiserror::Error;
 
 /// A source or a sink failed.
-#[derive(Clone, Copy, Debug, PartialEq, Eq)]
+#[derive(Clone, Copy, Debug, PartialEq, Eq, Error)]
+#[error("the stream failed")]
 pub struct Failed;
 
 /// Where the script comes from.
@@ -28,10 +30,12 @@ pub trait Source {
 }
 
 /// Why a script could not be read.
-#[derive(Clone, Copy, Debug, PartialEq, Eq)]
+#[derive(Clone, Copy, Debug, PartialEq, Eq, Error)]
 pub enum ReadFault {
     /// The source failed.
+    #[error("the source failed")]
     Failed,
+    #[error("out of memory")]
     OutOfMemory,
 }
 
