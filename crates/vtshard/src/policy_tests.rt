@@ -1,6 +1,6 @@
 //! Whole runs under the five durability policies: which acknowledgements a write waits for, and what waits in vain.
 
-use crate::tests::{Row, THREE_REPLICAS, plays};
+use crate::tests::{REPARENT, Row, THREE_REPLICAS, plays};
 use std::test::Fail;
 
 /// Two replicas under the policy `semi_sync`.
@@ -18,8 +18,6 @@ tablet zone2-201 rdonly 00000000-0000-4000-8000-000000000201
 
 /// A spare tablet in the other cell: it replicates, and its acknowledgement counts under no policy.
 const SPARE: &str = "tablet zone2-202 spare 00000000-0000-4000-8000-000000000202\n";
-
-const REPARENT: &str = "PlannedReparentShard commerce/0 --new-primary zone1-100\n";
 
 /// The primary loses its ackers one by one: first those of its cell, and the read-only one last.
 const READ_ONLY_LAST: &str = "settle

@@ -1,24 +1,15 @@
 //! Whole runs of the three reparents: whom they promote, what they refuse, and what the next one finds of one that was cut off.
 
-use crate::tests::{Row, plays};
+use crate::tests::{REPARENT, Row, THREE_ACKERS, plays};
 use std::test::Fail;
 
-/// Three replicas under the policy `semi_sync`.
-const THREE_ACKERS: &str = "shard commerce/0 semi_sync
-tablet zone1-100 replica 00000000-0000-4000-8000-000000000100
-tablet zone1-101 replica 00000000-0000-4000-8000-000000000101
-tablet zone1-102 replica 00000000-0000-4000-8000-000000000102
-";
-
-/// Four replicas under it.
+/// Four replicas under the policy `semi_sync`.
 const FOUR_REPLICAS: &str = "shard commerce/0 semi_sync
 tablet zone1-100 replica 00000000-0000-4000-8000-000000000100
 tablet zone1-101 replica 00000000-0000-4000-8000-000000000101
 tablet zone1-102 replica 00000000-0000-4000-8000-000000000102
 tablet zone1-103 replica 00000000-0000-4000-8000-000000000103
 ";
-
-const REPARENT: &str = "PlannedReparentShard commerce/0 --new-primary zone1-100\n";
 
 #[test]
 fn planned_reparents_go_by_their_options(rt: HostRuntime) -> Result<(), Fail> {

@@ -13,7 +13,17 @@ tablet zone1-101 replica 00000000-0000-4000-8000-000000000101
 tablet zone1-102 replica 00000000-0000-4000-8000-000000000102
 ";
 
-/// What is done to them.
+/// Three replicas under the policy `semi_sync`.
+pub(crate) const THREE_ACKERS: &str = "shard commerce/0 semi_sync
+tablet zone1-100 replica 00000000-0000-4000-8000-000000000100
+tablet zone1-101 replica 00000000-0000-4000-8000-000000000101
+tablet zone1-102 replica 00000000-0000-4000-8000-000000000102
+";
+
+/// The first tablet becomes the primary.
+pub(crate) const REPARENT: &str = "PlannedReparentShard commerce/0 --new-primary zone1-100\n";
+
+/// A first run over three replicas.
 pub(crate) const FIRST_RUN: &str = "PlannedReparentShard commerce/0 --new-primary zone1-100
 write 3
 ";

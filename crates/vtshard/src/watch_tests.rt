@@ -1,16 +1,7 @@
 //! Whole runs of `vtorc`: what it finds, and what it does about it.
 
-use crate::tests::{Row, plays};
+use crate::tests::{REPARENT, Row, THREE_ACKERS, plays};
 use std::test::Fail;
-
-/// Three replicas under the policy `semi_sync`.
-const THREE_ACKERS: &str = "shard commerce/0 semi_sync
-tablet zone1-100 replica 00000000-0000-4000-8000-000000000100
-tablet zone1-101 replica 00000000-0000-4000-8000-000000000101
-tablet zone1-102 replica 00000000-0000-4000-8000-000000000102
-";
-
-const REPARENT: &str = "PlannedReparentShard commerce/0 --new-primary zone1-100\n";
 
 #[test]
 fn a_vtorc_repairs_what_it_finds(rt: HostRuntime) -> Result<(), Fail> {
