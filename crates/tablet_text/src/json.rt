@@ -1,74 +1,62 @@
 //! The JSON of a shard and of its tablets.
 
-ghost use Rattle.std.specs.Prelude.{◌≡◌, ◌++◌, OnOk, codes};
+ghost use Rattle.std.specs.Prelude.{◌≡◌, ◌++◌, false, IfOk, OnOk};
 ghost use Rattle.uuid.specs.Text.{hyphenated_text, lower};
+ghost use Rattle.serde_json.specs.Data.{string, put as with_member};
+ghost use Rattle.serde_json.specs.View.{view, members_view};
+ghost use Rattle.serde_json.specs.Written.{has_float, compact_text};
 ghost use Rattle.shard_names.specs.Alias.{alias_text};
 ghost use Rattle.tablet_text.specs.Moments.{moment_text};
-ghost use Rattle.tablet_text.specs.Json.{before, member, primary_members, recorded_members, recorded_term, shard_members, keyspace_members, shard_json, kind_text, name_members, server_members, tablet_json, further_json, rows_json, tablets_json};
+ghost use Rattle.tablet_text.specs.Json.{text_data, recorded_alias, recorded_time, recorded_term, shard_data, shard_json, kind_text, tablet_data, tablets_data, tablets_json};
 
 use crate::moment::write_moment;
-use crate::number::write_number;
-use shard_base::{OutOfMemory, append_pieces};
+use serde_json::{Map, Value, push, put};
+use shard_base::OutOfMemory;
 use shard_calls::{ShownType, TabletRow};
 use shard_names::{Alias, ShardName};
+use std::alloc::Global;
 use topo_lock::Record;
 use uuid::Uuid;
 
-/// Appends a key with a text, of which nothing has to be escaped.
-#[tactic(auto, unfolding(crate::specs::Json::member, crate::specs::Json::before))]
-fn write_member(key: &[u8], text: &[u8], into: &mut Vec<u8>) -> Result<(), OutOfMemory>
-    ensures { OnOk result (into.new.items ≡ into.old.items ++ member key.now text.now) }
+/// A text as JSON may hold it. The names that are read are ASCII; whatever is no UTF-8 becomes U+FFFD.
+#[tactic(auto, unfolding(crate::specs::Json::text_data))]
+fn text_value(alloc: Global, text: &[u8]) -> Result<Value, OutOfMemory>
+    ensures { IfOk result (λ v. view v ≡ text_data text.now) }
 {
-    append_pieces(into, &[b"\"".as_slice(), key, b"\":\"", text, b"\""])
+    Ok(Value::from(String::from_utf8_lossy(alloc, text)?))
 }
 
-/// Appends the beginning of a key with a text, up to the text.
-#[tactic(auto, unfolding(crate::specs::Json::before))]
-fn write_before(key: &[u8], into: &mut Vec<u8>) -> Result<(), OutOfMemory>
-    ensures { OnOk result (into.new.items ≡ into.old.items ++ before key.now) }
+fn alias_value(alloc: Global, alias: &Alias) -> Result<Value, OutOfMemory>
+    ensures { IfOk result (λ v. view v ≡ text_data (alias_text alias.now)) }
 {
-    append_pieces(into, &[b"\"".as_slice(), key, b"\":\""])
+    let mut text = Vec::new(alloc);
+    alias.write(&mut text)?;
+    text_value(alloc, text.as_slice())
 }
 
-#[tactic(auto, unfolding(crate::specs::Json::member))]
-fn write_alias_member(key: &[u8], alias: &Alias, into: &mut Vec<u8>) -> Result<(), OutOfMemory>
-    ensures { OnOk result (into.new.items ≡ into.old.items ++ member key.now (alias_text alias.now)) }
+fn moment_value(alloc: Global, moment: u64) -> Result<Value, OutOfMemory>
+    ensures { IfOk result (λ v. view v ≡ text_data (moment_text moment)) }
 {
-    write_before(key, into)?;
-    alias.write(into)?;
-    into.extend_from_slice(b"\"")?;
-    Ok(())
+    let mut text = Vec::new(alloc);
+    write_moment(moment, &mut text)?;
+    text_value(alloc, text.as_slice())
 }
 
-#[tactic(auto, unfolding(crate::specs::Json::member))]
-fn write_moment_member(key: &[u8], moment: u64, into: &mut Vec<u8>) -> Result<(), OutOfMemory>
-    ensures { OnOk result (into.new.items ≡ into.old.items ++ member key.now (moment_text moment)) }
-{
-    write_before(key, into)?;
-    write_moment(moment, into)?;
-    into.extend_from_slice(b"\"")?;
-    Ok(())
-}
-
-#[tactic(auto, unfolding(crate::specs::Json::primary_members))]
-fn write_primary(recorded: &Record, into: &mut Vec<u8>) -> Result<(), OutOfMemory>
-    ensures { OnOk result (into.new.items ≡ into.old.items ++ primary_members recorded.now) }
-{
-    write_alias_member(b"primary_alias", &recorded.alias, into)?;
-    into.extend_from_slice(b",")?;
-    write_moment_member(b"primary_term_start_time", recorded.moment, into)
-}
-
-/// Appends who is recorded as the primary, and when that was recorded.
-fn write_recorded(recorded: &Option<Record>, into: &mut Vec<u8>) -> Result<(), OutOfMemory>
-    ensures { OnOk result (into.new.items ≡ into.old.items ++ recorded_members recorded.now) }
+fn recorded_alias(alloc: Global, recorded: &Option<Record>) -> Result<Value, OutOfMemory>
+    ensures { IfOk result (λ v. view v ≡ recorded_alias recorded.now) }
 {
     match recorded {
-        None => {
-            into.extend_from_slice(b"\"primary_alias\":null,\"primary_term_start_time\":null")?;
-            Ok(())
-        }
-        Some(recorded) => write_primary(recorded, into),
+        None => Ok(Value::Null),
+        Some(recorded) => alias_value(alloc, &recorded.alias),
+    }
+}
+
+fn recorded_time(alloc: Global, recorded: &Option<Record>) -> Result<Value, OutOfMemory>
+    ensures { IfOk result (λ v. view v ≡ recorded_time recorded.now) }
+{
+    match recorded {
+        None => Ok(Value::Null),
+        Some(recorded) => moment_value(alloc, recorded.moment),
     }
 }
 
@@ -81,30 +69,50 @@ fn recorded_term(recorded: &Option<Record>) -> u64
     }
 }
 
-#[tactic(auto, unfolding(crate::specs::Json::shard_members))]
-fn write_shard_members(shard: &[u8], term: u64, into: &mut Vec<u8>) -> Result<(), OutOfMemory>
-    ensures { OnOk result (into.new.items ≡ into.old.items ++ shard_members shard.now term) }
+/// Puts a text under a key.
+fn put_text(
+    members: &mut Map<String, Value>,
+    alloc: Global,
+    key: &str,
+    text: &[u8],
+) -> Result<(), OutOfMemory>
+    ensures { OnOk result (members_view members.new.entries ≡ with_member key.now (text_data text.now) (members_view members.old.entries)) }
 {
-    write_member(b"shard", shard, into)?;
-    into.extend_from_slice(b",\"term\":")?;
-    write_number(term, into)
+    let value = text_value(alloc, text)?;
+    put(members, alloc, key, value)?;
+    Ok(())
 }
 
-#[tactic(auto, unfolding(crate::specs::Json::keyspace_members))]
-fn write_keyspace_members(
-    keyspace: &[u8],
+fn shard_value(
+    alloc: Global,
+    shard: &ShardName,
     recorded: &Option<Record>,
-    into: &mut Vec<u8>,
-) -> Result<(), OutOfMemory>
-    ensures { OnOk result (into.new.items ≡ into.old.items ++ keyspace_members keyspace.now recorded.now) }
+) -> Result<Value, OutOfMemory>
+    ensures { IfOk result (λ v. view v ≡ shard_data shard.now recorded.now) }
 {
-    write_member(b"keyspace", keyspace, into)?;
-    into.extend_from_slice(b",")?;
-    write_recorded(recorded, into)
+    let mut members = Map::new(alloc);
+    put_text(&mut members, alloc, "keyspace", shard.keyspace.as_slice())?;
+    let alias = recorded_alias(alloc, recorded)?;
+    put(&mut members, alloc, "primary_alias", alias)?;
+    let time = recorded_time(alloc, recorded)?;
+    put(&mut members, alloc, "primary_term_start_time", time)?;
+    put_text(&mut members, alloc, "shard", shard.shard.as_slice())?;
+    let term = Value::from(recorded_term(recorded));
+    put(&mut members, alloc, "term", term)?;
+    Ok(Value::from(members))
+}
+
+/// Appends the compact text of a value that has no float.
+fn append_json(value: &Value, into: &mut Vec<u8>) -> Result<(), OutOfMemory>
+    ensures { OnOk result
+        (has_float (view value.now) ≡ false → into.new.items ≡ into.old.items ++ compact_text (view value.now)) }
+{
+    let text = value.to_string(*into.allocator())?;
+    into.extend_from_slice(text.as_bytes())?;
+    Ok(())
 }
 
 /// Appends the object of a shard, and of what is recorded of its primary.
-#[tactic(auto, unfolding(crate::specs::Json::shard_json))]
 pub fn write_shard(
     shard: &ShardName,
     recorded: &Option<Record>,
@@ -112,99 +120,60 @@ pub fn write_shard(
 ) -> Result<(), OutOfMemory>
     ensures { OnOk result (into.new.items ≡ into.old.items ++ shard_json shard.now recorded.now) }
 {
-    into.extend_from_slice(b"{")?;
-    write_keyspace_members(shard.keyspace.as_slice(), recorded, into)?;
-    into.extend_from_slice(b",")?;
-    write_shard_members(shard.shard.as_slice(), recorded_term(recorded), into)?;
-    into.extend_from_slice(b"}")?;
-    Ok(())
+    let value = shard_value(*into.allocator(), shard, recorded)?;
+    append_json(&value, into)
 }
 
-fn kind_name(kind: ShownType) -> &'static [u8]
+fn kind_name(kind: ShownType) -> &'static str
     ensures { result.now ≡ kind_text kind }
 {
     match kind {
-        ShownType::Primary => b"PRIMARY",
-        ShownType::Drained => b"DRAINED",
-        ShownType::Replica => b"REPLICA",
-        ShownType::Rdonly => b"RDONLY",
-        ShownType::Spare => b"SPARE",
+        ShownType::Primary => "PRIMARY",
+        ShownType::Drained => "DRAINED",
+        ShownType::Replica => "REPLICA",
+        ShownType::Rdonly => "RDONLY",
+        ShownType::Spare => "SPARE",
     }
 }
 
-#[tactic(auto, unfolding(crate::specs::Json::name_members))]
-fn write_name_members(alias: &Alias, into: &mut Vec<u8>) -> Result<(), OutOfMemory>
-    ensures { OnOk result (into.new.items ≡ into.old.items ++ name_members alias.now) }
-{
-    write_alias_member(b"alias", alias, into)?;
-    into.extend_from_slice(b",")?;
-    write_member(b"cell", alias.cell.as_slice(), into)
-}
-
-fn write_server(server: &Uuid, into: &mut Vec<u8>) -> Result<(), OutOfMemory>
-    ensures { OnOk result (into.new.items ≡ into.old.items ++ member (codes "server") (hyphenated_text lower server.now)) }
+/// A server as its UUID in lower case.
+fn server_value(alloc: Global, server: &Uuid) -> Result<Value, OutOfMemory>
+    ensures { IfOk result (λ v. view v ≡ string (hyphenated_text lower server.now)) }
 {
     let mut room = Uuid::encode_buffer();
     let server = server.hyphenated();
-    let text = server.encode_lower(&mut room);
-    write_member(b"server", text.as_bytes(), into)
+    Ok(Value::try_from_str(alloc, server.encode_lower(&mut room))?)
 }
 
-#[tactic(auto, unfolding(crate::specs::Json::server_members))]
-fn write_server_members(
-    server: &Uuid,
-    kind: ShownType,
-    into: &mut Vec<u8>,
-) -> Result<(), OutOfMemory>
-    ensures { OnOk result (into.new.items ≡ into.old.items ++ server_members server.now kind) }
+fn tablet_value(alloc: Global, row: &TabletRow) -> Result<Value, OutOfMemory>
+    ensures { IfOk result (λ v. view v ≡ tablet_data row.now) }
 {
-    write_server(server, into)?;
-    into.extend_from_slice(b",")?;
-    write_member(b"type", kind_name(kind), into)
+    let mut members = Map::new(alloc);
+    let alias = alias_value(alloc, &row.alias)?;
+    put(&mut members, alloc, "alias", alias)?;
+    put_text(&mut members, alloc, "cell", row.alias.cell.as_slice())?;
+    let server = server_value(alloc, &row.server)?;
+    put(&mut members, alloc, "server", server)?;
+    let kind = Value::try_from_str(alloc, kind_name(row.kind))?;
+    put(&mut members, alloc, "type", kind)?;
+    Ok(Value::from(members))
 }
 
-#[tactic(auto, unfolding(crate::specs::Json::tablet_json))]
-fn write_tablet(row: &TabletRow, into: &mut Vec<u8>) -> Result<(), OutOfMemory>
-    ensures { OnOk result (into.new.items ≡ into.old.items ++ tablet_json row.now) }
+fn tablets_value(alloc: Global, rows: &[TabletRow]) -> Result<Value, OutOfMemory>
+    ensures { IfOk result (λ v. view v ≡ tablets_data rows.now) }
 {
-    into.extend_from_slice(b"{")?;
-    write_name_members(&row.alias, into)?;
-    into.extend_from_slice(b",")?;
-    write_server_members(&row.server, row.kind, into)?;
-    into.extend_from_slice(b"}")?;
-    Ok(())
-}
-
-fn write_further(rows: &[TabletRow], into: &mut Vec<u8>) -> Result<(), OutOfMemory>
-    ensures { OnOk result (into.new.items ≡ into.old.items ++ further_json rows.now) }
-{
+    let mut values = Vec::new(alloc);
     for row in rows {
-        into.extend_from_slice(b",")?;
-        write_tablet(row, into)?;
+        let value = tablet_value(alloc, row)?;
+        push(&mut values, value)?;
     }
-    Ok(())
-}
-
-/// Appends the objects of tablets, with commas between them.
-fn write_rows(rows: &[TabletRow], into: &mut Vec<u8>) -> Result<(), OutOfMemory>
-    ensures { OnOk result (into.new.items ≡ into.old.items ++ rows_json rows.now) }
-{
-    match rows.split_first() {
-        None => Ok(()),
-        Some((first, further)) => {
-            write_tablet(first, into)?;
-            write_further(further, into)
-        }
-    }
+    Ok(Value::from(values))
 }
 
 /// Appends the array of a shard's tablets.
-#[tactic(auto, unfolding(crate::specs::Json::tablets_json))]
 pub fn write_tablets(rows: &[TabletRow], into: &mut Vec<u8>) -> Result<(), OutOfMemory>
     ensures { OnOk result (into.new.items ≡ into.old.items ++ tablets_json rows.now) }
 {
-    into.extend_from_slice(b"[")?;
-    write_rows(rows, into)?;
-    into.extend_from_slice(b"]")?;
-    Ok(())
+    let value = tablets_value(*into.allocator(), rows)?;
+    append_json(&value, into)
 }
