@@ -8,3 +8,4 @@ pub mod SetLemmas
 pub mod CommandLemmas
 pub mod ToldLemmas
 pub mod ReplyLemmas
+pub mod NameLemmas

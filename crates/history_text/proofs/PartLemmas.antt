@@ -33,7 +33,7 @@ abbrev pub tens : ℕ → List ℕ → ℕ
 tens n [] = n
 tens n (b ∷ bs) = tens (n * 10 + (b - 48)) bs
 
-ten_back : (n : ℕ) → n < 2 ^ 32 → tens 0 (ten_digits n) ≡ n
+pub ten_back : (n : ℕ) → n < 2 ^ 32 → tens 0 (ten_digits n) ≡ n
 ten_back n h =
     let t0 : tens (n / 1) [] ≡ n = omega arith in
     let t1 : tens (n / 10) (drop 9 (ten_digits n)) ≡ n = ap (λ (k : ℕ). tens k []) (omega arith) ∙ t0 in

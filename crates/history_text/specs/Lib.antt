@@ -4,4 +4,5 @@ pub mod Replies
 pub mod Declarations
 pub mod Histories
 pub mod Laws
+pub mod Names
 pub mod Told

@@ -1,6 +1,7 @@
 //! What the lines of a history are. The functions do nothing: each one's contract is a law.
 
 ghost use Rattle.history_text.specs.Laws.{StepIsOneLine, PiecesAreTheWhole};
+ghost use Rattle.history_text.specs.Names.{AliasesReadBack, ShardsReadBack, AliasesDiffer, ShardsDiffer};
 ghost use Rattle.history_text.specs.Told.{LineTellsEvent, LineTellsReply};
 
 /// The line of a step holds no newline, where no name in it does.
@@ -22,4 +23,13 @@ pub fn line_tells_event()
 /// And it tells the reply, where the event ends no command.
 pub fn line_tells_reply()
     ensures { LineTellsReply }
+{}
+
+/// Aliases and shards' names, as they stand in a line, are read back: `Alias::read` and `ShardName::read` give what was written. So two names
+/// have two texts.
+pub fn names_read_back()
+    ensures aliases { AliasesReadBack }
+    ensures shards { ShardsReadBack }
+    ensures aliases_differ { AliasesDiffer }
+    ensures shards_differ { ShardsDiffer }
 {}

@@ -15,4 +15,6 @@ mod reply;
 mod tests;
 
 pub use history::{append_opening, append_step};
-pub use laws::{line_tells_event, line_tells_reply, pieces_are_the_whole, step_is_one_line};
+pub use laws::{
+    line_tells_event, line_tells_reply, names_read_back, pieces_are_the_whole, step_is_one_line,
+};
