@@ -6,7 +6,7 @@ use Rattle.shard_names.proofs.TabletLemmas.{both_left, both_right}
 use Rattle.shard_calls.specs.Messages.{passes}
 use Rattle.shard_calls.specs.World.{numbered}
 use Rattle.post.specs.Waiting.{numbers_from, numbers_of}
-use Rattle.arrivals.specs.Ways.{if_passes, earlier}
+use Rattle.arrivals.specs.Ways.{if_passes}
 
 -- ---- the first that passes, where the walk has come to a place
 
@@ -110,14 +110,6 @@ first_same n p q [] same = refl
 first_same n p q (x ∷ xs) same =
     ap (λ (t : Bool). cond t (Some n) (position_from p (n + 1) xs)) (same x) ∙ ap (λ (o : Option ℕ). cond (q x) (Some n) o) (first_same (n + 1) p q xs same)
 
--- on members of which something holds
-pub first_same_on : {A : Type 0} (n : ℕ) (held p q : A → Bool) (xs : List A) → list_all held xs ≡ true → ((x : A) → held x ≡ true → p x ≡ q x)
-    → position_from p n xs ≡ position_from q n xs
-first_same_on n held p q [] all same = refl
-first_same_on n held p q (x ∷ xs) all same =
-    ap (λ (t : Bool). cond t (Some n) (position_from p (n + 1) xs)) (same x (both_left (held x) (list_all held xs) all))
-    ∙ ap (λ (o : Option ℕ). cond (q x) (Some n) o) (first_same_on (n + 1) held p q xs (both_right (held x) (list_all held xs) all) same)
-
 pub any_same : {A : Type 0} (p q : A → Bool) (xs : List A) → ((x : A) → p x ≡ q x) → list_any p xs ≡ list_any q xs
 any_same p q [] same = refl
 any_same p q (x ∷ xs) same = ap (λ (t : Bool). t || list_any p xs) (same x) ∙ ap (λ (t : Bool). q x || t) (any_same p q xs same)
@@ -137,7 +129,7 @@ or_true : (a b c : Bool) → (a ≡ true → c ≡ true) → (a || b) ≡ true �
 or_true true b c f h g = f refl
 or_true false b c f h g = g h
 
-or_right : (a b : Bool) → b ≡ true → (a || b) ≡ true
+pub or_right : (a b : Bool) → b ≡ true → (a || b) ≡ true
 or_right true b h = refl
 or_right false b h = h
 
@@ -158,48 +150,3 @@ neither p q r [] split none more = refl
 neither p q r (x ∷ xs) split none more =
     let all = either (r x) (p x) (q x) (list_any p xs) (list_any q xs) (split x) none more in
     ap (λ (t : Bool). t || list_any r xs) all.0 ∙ neither p q r xs split all.1.0 all.1.1
-
--- ---- the earlier of two
-
-abbrev pub AtLeast : ℕ → Option ℕ → Type 0
-AtLeast n o = MatchOption o (Unit {0}) (λ k. n ≤ k)
-
-weaker : (n : ℕ) (o : Option ℕ) → AtLeast (n + 1) o → AtLeast n o
-weaker n None h = tt
-weaker n (Some k) h = omega (arith, h)
-
-at_least_one : (t : Bool) (n : ℕ) (o : Option ℕ) → AtLeast (n + 1) o → AtLeast n (cond t (Some n) o)
-at_least_one true n o h = omega arith
-at_least_one false n o h = weaker n o h
-
-at_least : {A : Type 0} (n : ℕ) (test : A → Bool) (xs : List A) → AtLeast n (position_from test n xs)
-at_least n test [] = tt
-at_least n test (x ∷ xs) = at_least_one (test x) n (position_from test (n + 1) xs) (at_least (n + 1) test xs)
-
-first_is : (n : ℕ) (o : Option ℕ) → AtLeast (n + 1) o → Some n ≡ earlier (Some n) o
-first_is n None h = refl
-first_is n (Some k) h = ap (λ (i : ℕ). Some i) (let least : n ≡ min n k = omega (arith, h) in least)
-
-second_is : (n : ℕ) (o : Option ℕ) → AtLeast (n + 1) o → Some n ≡ earlier o (Some n)
-second_is n None h = refl
-second_is n (Some k) h = ap (λ (i : ℕ). Some i) (let least : n ≡ min k n = omega (arith, h) in least)
-
-merge_one : (a b c : Bool) (n : ℕ) (o p q : Option ℕ) → a ≡ (b || c) → AtLeast (n + 1) p → AtLeast (n + 1) q → o ≡ earlier p q
-    → cond a (Some n) o ≡ earlier (cond b (Some n) p) (cond c (Some n) q)
-merge_one a true true n o p q e lp lq rest = ap (λ (t : Bool). cond t (Some n) o) e ∙ ap (λ (i : ℕ). Some i) (let least : n ≡ min n n = omega arith in least)
-merge_one a true false n o p q e lp lq rest = ap (λ (t : Bool). cond t (Some n) o) e ∙ first_is n q lq
-merge_one a false true n o p q e lp lq rest = ap (λ (t : Bool). cond t (Some n) o) e ∙ second_is n p lp
-merge_one a false false n o p q e lp lq rest = ap (λ (t : Bool). cond t (Some n) o) e ∙ rest
-
--- the first that passes one of two tests
-pub merged : {A : Type 0} (n : ℕ) (p q r : A → Bool) (xs : List A) → ((x : A) → r x ≡ (p x || q x))
-    → position_from r n xs ≡ earlier (position_from p n xs) (position_from q n xs)
-merged n p q r [] split = refl
-merged n p q r (x ∷ xs) split =
-    merge_one (r x) (p x) (q x) n (position_from r (n + 1) xs) (position_from p (n + 1) xs) (position_from q (n + 1) xs) (split x) (at_least (n + 1) p xs) (at_least (n + 1) q xs)
-    (merged (n + 1) p q r xs split)
-
--- none passes a test that nothing passes
-pub never : {A : Type 0} (n : ℕ) (p : A → Bool) (xs : List A) → ((x : A) → p x ≡ false) → position_from p n xs ≡ None
-never n p [] none = refl
-never n p (x ∷ xs) none = ap (λ (t : Bool). cond t (Some n) (position_from p (n + 1) xs)) (none x) ∙ never (n + 1) p xs none

@@ -1,6 +1,6 @@
 -- What is due, found by the directions.
 use Rattle.std.proofs.Common.{◌≡◌, ℕ, ◌+◌, ◌<◌, Bool, true, false, not, ◌&&◌, ◌||◌, ◌==◌, nat_lt, is_none, List, [], ◌∷◌, length, None, refl, ap, sym, ◌∙◌, arith}
-use Rattle.std.specs.List.{find, list_any}
+use Rattle.std.specs.List.{list_any}
 use Rattle.std.proofs.lemmas.Bool.Decides.{nat_tests}
 use Rattle.shard_names.specs.declared.alias.Alias.{Alias}
 use Rattle.shard_names.proofs.TabletLemmas.{both_left}
@@ -12,77 +12,23 @@ use Rattle.post.specs.Waiting.{waits, waiting_on}
 use Rattle.post.proofs.MemberLemmas.{any_numbered}
 use Rattle.shard_state.specs.State.{Data, seen, tablets_of}
 use Rattle.arrivals.specs.Addressed.{KnowsTablets, AreAddressed, is_addressed}
-use Rattle.arrivals.specs.Arrivals.{is_due, next_due}
-use Rattle.arrivals.specs.Ways.{is_due_of, first_due, is_due_at, leaves_below, leaves, starts_below, is_feed_due, is_feed_on, is_feed_below, is_feed_to, earlier}
-use Rattle.arrivals.proofs.WalkLemmas.{first_numbered, first_same, first_same_on, any_same, any_same_on, none_on, any_more, neither, merged, never}
+use Rattle.arrivals.specs.Ways.{is_feed_due, is_feed_on, is_feed_below, is_feed_to}
+use Rattle.arrivals.proofs.WalkLemmas.{any_same, any_same_on, none_on, any_more, neither}
 use Rattle.arrivals.proofs.PlacedLemmas.{from_placed, to_placed, feed_place}
 
 -- ---- tests on numbers
 
-pub nothing_below : (k : ℕ) → nat_lt k 0 ≡ false
+nothing_below : (k : ℕ) → nat_lt k 0 ≡ false
 nothing_below k = grind (arith, nat_tests)
 
 next_below : (k n m : ℕ) → m ≡ n + 1 → nat_lt k m ≡ (nat_lt k n || (k == n))
 next_below k n m e = grind (arith, nat_tests)
 
--- ---- what waits, and is due
-
-waits_too : (g a l c r : Bool) → ((g && (a && not l)) && (a && ((not l && c) && r))) ≡ (g && (a && ((not l && c) && r)))
-waits_too false a l c r = refl
-waits_too true false l c r = refl
-waits_too true true true c r = refl
-waits_too true true false c r = refl
-
--- what is due on a direction waits there
-pub first_between : (d : Data) (from to : ℕ) → find (is_due_at d) (waiting_on d.aliases d.messages from to) ≡ first_due d (goes d.aliases from to)
-first_between d from to =
-    first_numbered (waits d.aliases from to) (is_due (seen d)) d.messages
-    ∙ first_same 1 (λ m. waits d.aliases from to m && is_due (seen d) m) (is_due_of d (goes d.aliases from to)) d.messages
-    (λ m. waits_too (goes d.aliases from to m.content) (is_none m.arrived) m.lost (not (is_cut d.cuts (link_of m.content))) (is_received (seen d) m.content))
-
 -- ---- one direction more
-
-and_false : (a b : Bool) → a ≡ false → (a && b) ≡ false
-and_false true b h = absurd (cc)
-and_false false b h = refl
-
-false_within : (a b c : Bool) → b ≡ false → ((a && b) && c) ≡ false
-false_within true b c h = and_false b c h
-false_within false b c h = refl
-
-pub none_yet : (d : Data) (from : ℕ) → None ≡ first_due d (leaves_below d.aliases from 0)
-none_yet d from =
-    sym (never 1 (is_due_of d (leaves_below d.aliases from 0)) d.messages
-    (λ m. false_within (place_from d.aliases m.content == from) (nat_lt (place_to d.aliases m.content) 0) (is_due (seen d) m) (nothing_below (place_to d.aliases m.content))))
-
-spread : (a b c x e : Bool) → x ≡ (b || c) → ((a && x) && e) ≡ (((a && b) && e) || ((a && c) && e))
-spread false b c x e h = refl
-spread true true true true true h = refl
-spread true true true true false h = refl
-spread true true false true true h = refl
-spread true true false true false h = refl
-spread true false true true true h = refl
-spread true false true true false h = refl
-spread true false false false e h = refl
-spread true true c false e h = absurd (cc)
-spread true false true false e h = absurd (cc)
-spread true false false true e h = absurd (cc)
-
-pub one_more_to : (d : Data) (from to next : ℕ) → next ≡ to + 1
-    → earlier (first_due d (leaves_below d.aliases from to)) (first_due d (goes d.aliases from to)) ≡ first_due d (leaves_below d.aliases from next)
-one_more_to d from to next e =
-    sym (merged 1 (is_due_of d (leaves_below d.aliases from to)) (is_due_of d (goes d.aliases from to)) (is_due_of d (leaves_below d.aliases from next)) d.messages
-    (λ m. spread (place_from d.aliases m.content == from) (nat_lt (place_to d.aliases m.content) to) (place_to d.aliases m.content == to) (nat_lt (place_to d.aliases m.content) next)
-    (is_due (seen d) m) (next_below (place_to d.aliases m.content) to next e)))
 
 false_first : (a b c : Bool) → a ≡ false → ((a && b) && c) ≡ false
 false_first true b c h = absurd (cc)
 false_first false b c h = refl
-
-pub none_begun : (d : Data) → None ≡ first_due d (starts_below d.aliases 0)
-none_begun d =
-    sym (never 1 (is_due_of d (starts_below d.aliases 0)) d.messages
-    (λ m. false_first (nat_lt (place_from d.aliases m.content) 0) (nat_lt (place_to d.aliases m.content) (length d.aliases + 1)) (is_due (seen d) m) (nothing_below (place_from d.aliases m.content))))
 
 spread_first : (a b c x e : Bool) → x ≡ (b || c) → ((x && a) && e) ≡ (((b && a) && e) || ((c && a) && e))
 spread_first a true true true e h = twice (a && e) where
@@ -98,25 +44,6 @@ spread_first a false false false e h = refl
 spread_first a true c false e h = absurd (cc)
 spread_first a false true false e h = absurd (cc)
 spread_first a false false true e h = absurd (cc)
-
-pub one_more_from : (d : Data) (from next : ℕ) → next ≡ from + 1
-    → earlier (first_due d (starts_below d.aliases from)) (first_due d (leaves d.aliases from)) ≡ first_due d (starts_below d.aliases next)
-one_more_from d from next e =
-    sym (merged 1 (is_due_of d (starts_below d.aliases from)) (is_due_of d (leaves d.aliases from)) (is_due_of d (starts_below d.aliases next)) d.messages
-    (λ m. spread_first (nat_lt (place_to d.aliases m.content) (length d.aliases + 1)) (nat_lt (place_from d.aliases m.content) from) (place_from d.aliases m.content == from)
-    (nat_lt (place_from d.aliases m.content) next) (is_due (seen d) m) (next_below (place_from d.aliases m.content) from next e)))
-
-true_first : (a b c : Bool) → a ≡ true → b ≡ true → ((a && b) && c) ≡ c
-true_first true true c h i = refl
-true_first true false c h i = absurd (cc)
-true_first false b c h i = absurd (cc)
-
--- on all directions
-pub all_directions : (d : Data) → KnowsTablets d → AreAddressed d → first_due d (starts_below d.aliases (length d.aliases + 1)) ≡ next_due (seen d)
-all_directions d known addressed =
-    first_same_on 1 (λ m. is_addressed (tablets_of d.managers) m.content) (is_due_of d (starts_below d.aliases (length d.aliases + 1))) (is_due (seen d)) d.messages addressed
-    (λ m h. true_first (nat_lt (place_from d.aliases m.content) (length d.aliases + 1)) (nat_lt (place_to d.aliases m.content) (length d.aliases + 1)) (is_due (seen d) m)
-    (from_placed (tablets_of d.managers) d.aliases m.content known h) (to_placed (tablets_of d.managers) d.aliases m.content known h))
 
 -- ---- entries on their way
 

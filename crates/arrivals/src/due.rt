@@ -1,14 +1,15 @@
-ghost use Rattle.std.specs.Prelude.{◌≡◌, slice_get};
+//! The least message that may come.
+
+ghost use Rattle.std.specs.Prelude.{◌≡◌, slice_get, min};
 ghost use Rattle.std.specs.List.{find};
-ghost use Rattle.post.specs.Directions.{IsPlace, goes};
 ghost use Rattle.shard_state.specs.State.{seen, data_of, AreOfGroup};
-ghost use Rattle.arrivals.specs.Addressed.{KnowsTablets, AreAddressed};
 ghost use Rattle.arrivals.specs.Arrivals.{is_due, next_due};
-ghost use Rattle.arrivals.specs.Ways.{first_due, is_due_at, if_passes, leaves, earlier};
+ghost use Rattle.arrivals.specs.Receivers.{due_for, due_in, due_of, earlier, OpenAreOfActors};
+ghost use Rattle.arrivals.specs.Ways.{is_due_at, if_passes};
 
 use crate::receivers::may_arrive;
 use post::Queue;
-use shard_calls::Message;
+use shard_calls::{ActorState, Message};
 use shard_state::Fields;
 
 /// Whether it has not come to its receiver, and may.
@@ -59,55 +60,68 @@ fn first_in(fields: &Fields, queue: &Queue) -> Option<u64>
     None
 }
 
-/// The first message that is due on its way from one place to another.
-fn due_on(fields: &Fields, from: usize, to: usize) -> Option<u64>
+/// The first number whose message is due to the command of a number, or with 0 to a tablet. It costs a few steps for each message that waits for
+/// it before that.
+fn first_for(fields: &Fields, command: u64) -> Option<u64>
     requires group { AreOfGroup (data_of fields.now) }
-    requires from { IsPlace fields.now.post.aliases from }
-    requires to { IsPlace fields.now.post.aliases to }
-    ensures { result ≡ first_due (data_of fields.now) (goes fields.now.post.aliases from to) }
+    ensures { result ≡ due_for (data_of fields.now) command }
 {
-    first_in(fields, fields.post.waiting(from, to))
-}
-
-fn earlier(a: Option<u64>, b: Option<u64>) -> Option<u64>
-    ensures { result ≡ earlier a b }
-{
-    match a {
-        Some(x) => match b {
-            Some(y) => Some(x.min(y)),
-            None => Some(x),
-        },
-        None => b,
+    match fields.post.waiting_for(command) {
+        Some(queue) => first_in(fields, queue),
+        None => None,
     }
 }
 
-/// The first message that is due on its way from this place to any.
-fn due_from(fields: &Fields, from: usize) -> Option<u64>
+/// The same for the command that an actor has open.
+fn first_of(fields: &Fields, pending: Option<u64>) -> Option<u64>
     requires group { AreOfGroup (data_of fields.now) }
-    requires from { IsPlace fields.now.post.aliases from }
-    ensures { result ≡ first_due (data_of fields.now) (leaves fields.now.post.aliases from) }
+    ensures { result ≡ due_in (data_of fields.now) pending }
 {
-    let mut first = None;
-    for to in 0..fields.post.aliases().len() + 1 {
-        let found = due_on(fields, from, to);
-        first = earlier(first, found);
+    match pending {
+        Some(command) => first_for(fields, command),
+        None => None,
+    }
+}
+
+fn least(one: u64, other: u64) -> u64
+    ensures { result ≡ min one other }
+{
+    if one <= other { one } else { other }
+}
+
+fn earlier(one: Option<u64>, other: Option<u64>) -> Option<u64>
+    ensures { result ≡ earlier one other }
+{
+    match (one, other) {
+        (None, other) => other,
+        (Some(one), None) => Some(one),
+        (Some(one), Some(other)) => Some(least(one, other)),
+    }
+}
+
+/// The least of this number and those that are due to the commands which these actors have open.
+fn least_of(fields: &Fields, actors: &[ActorState], found: Option<u64>) -> Option<u64>
+    requires group { AreOfGroup (data_of fields.now) }
+    ensures { result ≡ earlier found (due_of (data_of fields.now) actors.now) }
+{
+    let mut first = found;
+    let mut rest = actors;
+    while let Some((actor, more)) = rest.split_first() {
+        first = earlier(first, first_of(fields, actor.pending));
+        rest = more;
     }
     first
 }
 
 /// The message that comes next of itself: the first that has not come to its receiver, and may.
 ///
-/// It costs a few steps for each direction, and for each message before the first of its direction that may come.
+/// It costs a few steps for each actor, for each message that waits for a tablet before the first that may come, and for each answer that waits so
+/// for an open command. Answers to commands that have ended cost nothing.
 pub fn deliverable(fields: &Fields) -> Option<u64>
     requires group { AreOfGroup (data_of fields.now) }
-    requires known { KnowsTablets (data_of fields.now) }
-    requires addressed { AreAddressed (data_of fields.now) }
+    requires open { OpenAreOfActors (data_of fields.now) }
     ensures { result ≡ next_due (seen (data_of fields.now)) }
 {
-    let mut first = None;
-    for from in 0..fields.post.aliases().len() + 1 {
-        let found = due_from(fields, from);
-        first = earlier(first, found);
-    }
-    first
+    let found = first_for(fields, 0);
+    least_of(fields, fields.actors.as_slice(), found)
 }

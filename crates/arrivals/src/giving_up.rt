@@ -1,3 +1,5 @@
+//! Why a call may be given up: its tablet is down, the link is cut, it is lost, or its time is over.
+
 ghost use Rattle.std.specs.Prelude.{◌≡◌, ◌+◌, ◌&&◌, ◌==◌, not, nat_le, is_none};
 ghost use Rattle.std.specs.List.{list_all};
 ghost use Rattle.shard_calls.specs.World.{numbered};

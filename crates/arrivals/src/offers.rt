@@ -1,5 +1,7 @@
-ghost use Rattle.std.specs.Prelude.{◌≡◌, ◌&&◌, ◌<◌, length, slice_get, is_some};
-ghost use Rattle.std.specs.List.{list_any, find};
+//! What a replica may be offered of its primary's log, and the first replica that may be offered an entry.
+
+ghost use Rattle.std.specs.Prelude.{◌≡◌, ◌&&◌, ◌<◌, length, nat_lt, slice_get, is_some};
+ghost use Rattle.std.specs.List.{list_any};
 ghost use Rattle.shard_calls.specs.declared.stand.Stand.TheVariants as stands;
 ghost use Rattle.shard_calls.specs.Messages.{passes, waits_at, is_under_way, may_feed, offered_by, offer_to};
 ghost use Rattle.shard_calls.specs.World.{numbered};
@@ -8,6 +10,7 @@ ghost use Rattle.shard_state.specs.State.{seen, data_of, config_in, state_at, Ar
 ghost use Rattle.tablet_manager.specs.Managed.{state_of};
 ghost use Rattle.arrivals.specs.Addressed.{KnowsTablets, AreAddressed};
 ghost use Rattle.arrivals.specs.Arrivals.{next_offered};
+ghost use Rattle.arrivals.specs.Offers.{sends, sent_by, most_sent, waits_within, is_offered, first_offered};
 ghost use Rattle.arrivals.specs.Ways.{is_feed_due, is_feed_on, is_feed_to};
 
 use crate::due::is_due;
@@ -17,7 +20,7 @@ use post::Queue;
 use shard_calls::{Content, Stand};
 use shard_names::Alias;
 use shard_state::{Fields, manager_of};
-use tablet_manager::Manager;
+use tablet_manager::{Manager, PlainLog};
 
 fn waits_at(content: &Content, replica: &Alias, next: u64) -> bool
     ensures { result ≡ waits_at replica.now next content.now }
@@ -120,6 +123,13 @@ fn may_feed(
         && !is_under_way(fields, replica, next)
 }
 
+/// Whether the log has not come to this index.
+fn is_beyond(log: &PlainLog, index: u64) -> bool
+    ensures { result ≡ nat_lt (length log.now.entries) index }
+{
+    (log.entries().len() as u64) < index
+}
+
 /// What a tablet that replicates from another in the term, and waits for an entry, is offered.
 fn offered(
     fields: &Fields,
@@ -137,6 +147,9 @@ fn offered(
 {
     match manager_of(&fields.managers, from) {
         Some(source) => {
+            if is_beyond(source.log(), next) {
+                return None;
+            }
             if may_feed(fields, from, source, to, term, next) {
                 let row = sends_all_from(source);
                 return feed(source.log(), row, replica.log(), from, to, term, next);
@@ -169,8 +182,9 @@ fn offer_by_stand(fields: &Fields, manager: &Manager, replica: &Alias) -> Option
 /// The entry that a replica may be offered, as its source sends it: the first that it needs, if the source sends its log, the link is
 /// not cut, and none is on its way.
 ///
-/// It costs a few steps for each tablet, for each message that waits on its way to the replica, and for each entry of the source's log
-/// from the one on that the replica waits for up to the one that it needs.
+/// Where the source has no entry that the replica waits for, it costs the steps to the two tablets. Else it costs a few steps for each tablet, for
+/// each message that waits on its way to the replica, and for each entry of the source's log from the one on that the replica waits for up to
+/// the one that it needs.
 pub fn offer_to(fields: &Fields, replica: &Alias) -> Option<Content>
     requires group { AreOfGroup (data_of fields.now) }
     requires known { KnowsTablets (data_of fields.now) }
@@ -183,27 +197,93 @@ pub fn offer_to(fields: &Fields, replica: &Alias) -> Option<Content>
     }
 }
 
-fn is_offered(fields: &Fields, replica: &Alias) -> bool
+/// Whether a tablet that stands so sends its log to the replicas of some term.
+fn sends(stand: &Stand) -> bool
+    ensures { result ≡ sends stand.now }
+{
+    match stand {
+        Stand::Down => false,
+        Stand::Stopped => false,
+        Stand::Primary { .. } => true,
+        Stand::Demoted { .. } => true,
+        Stand::Replica { .. } => false,
+        Stand::Feeder { .. } => true,
+    }
+}
+
+fn sent_by(manager: &Manager) -> u64
+    ensures { result ≡ sent_by manager.now }
+{
+    if sends(manager.stand()) {
+        return manager.log().entries().len() as u64;
+    }
+    0
+}
+
+/// The length of the longest log that a tablet sends.
+fn most_sent(managers: &[Manager]) -> u64
+    ensures { result ≡ most_sent managers.now }
+{
+    let mut rest = managers;
+    let mut most = 0;
+    while let Some((manager, more)) = rest.split_first() {
+        most = most.max(sent_by(manager));
+        rest = more;
+    }
+    most
+}
+
+/// Whether a tablet that stands so waits for an entry that a log of this length has.
+fn waits_within(stand: &Stand, most: u64) -> bool
+    ensures { result ≡ waits_within most stand.now }
+{
+    match stand {
+        Stand::Down => false,
+        Stand::Stopped => false,
+        Stand::Primary { .. } => false,
+        Stand::Demoted { .. } => false,
+        Stand::Replica { next, .. } => *next <= most,
+        Stand::Feeder { .. } => false,
+    }
+}
+
+/// Whether the tablet waits for an entry that a log of this length has, and may be offered one. Who does not wait for one costs a few steps.
+fn is_offered(fields: &Fields, manager: &Manager, most: u64) -> bool
     requires group { AreOfGroup (data_of fields.now) }
     requires known { KnowsTablets (data_of fields.now) }
     requires addressed { AreAddressed (data_of fields.now) }
-    ensures { result ≡ is_some (offer_to (seen (data_of fields.now)) replica.now) }
+    ensures { result ≡ is_offered (data_of fields.now) most manager.now }
 {
-    offer_to(fields, replica).is_some()
+    waits_within(manager.stand(), most) && offer_to(fields, &manager.me().alias).is_some()
 }
 
-/// The first tablet, in alias order, that may be offered an entry. It costs what `offer_to` costs, for each tablet before it.
+/// The first of these that waits for an entry that a log of this length has, and may be offered one.
+fn first_offered(fields: &Fields, managers: &[Manager], most: u64) -> Option<Alias>
+    requires group { AreOfGroup (data_of fields.now) }
+    requires known { KnowsTablets (data_of fields.now) }
+    requires addressed { AreAddressed (data_of fields.now) }
+    ensures { result ≡ first_offered (data_of fields.now) most managers.now }
+{
+    let mut rest = managers;
+    while let Some((manager, more)) = rest.split_first() {
+        if is_offered(fields, manager, most) {
+            return Some(manager.me().alias);
+        }
+        rest = more;
+    }
+    None
+}
+
+/// The first tablet, in alias order, that may be offered an entry.
+///
+/// It costs a few steps for each tablet, and what `offer_to` costs for each that waits for an entry which some source has, up to the first
+/// that may be offered one.
 pub fn offerable(fields: &Fields) -> Option<Alias>
     requires group { AreOfGroup (data_of fields.now) }
     requires known { KnowsTablets (data_of fields.now) }
     requires addressed { AreAddressed (data_of fields.now) }
     ensures { result ≡ next_offered (config_in (data_of fields.now)) (seen (data_of fields.now)) }
 {
-    let aliases = fields.post.aliases();
-    for at in 0..aliases.len() {
-        if is_offered(fields, &aliases[at]) {
-            return Some(aliases[at]);
-        }
-    }
-    None
+    let most = most_sent(fields.managers.as_slice());
+    first_offered(fields, fields.managers.as_slice(), most)
 }

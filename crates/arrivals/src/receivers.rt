@@ -1,3 +1,5 @@
+//! Whether a message may come to the one that it is for.
+
 ghost use Rattle.std.specs.Prelude.{◌≡◌, ◌&&◌, ◌||◌, not, nat_lt, nat_le, Some};
 ghost use Rattle.gtid_sets.specs.Logs.{position_of};
 ghost use Rattle.gtid_sets.specs.Position.{covers, nothing};

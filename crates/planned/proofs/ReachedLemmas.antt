@@ -20,10 +20,10 @@ use Rattle.shard_calls.specs.Deliveries.{if_declared}
 use Rattle.shard_calls.specs.Table.{Met, after, world_after, IsRunFrom}
 use Rattle.planned.specs.Course.{WaitsInTime, first_of, may}
 use Rattle.planned.specs.Laws.{BeginsInTime, OfEveryWorld, AllWaitInTime, MayIsMet, NextIsMet, NoneBlocks}
-use Rattle.planned.proofs.KnownLemmas.{IsReached, open_numbered}
+use Rattle.shard_core.proofs.KnownLemmas.{IsReached, open_numbered}
 use Rattle.planned.proofs.NextLemmas.{AllMet, may_met}
 use Rattle.planned.proofs.WaitLemmas.{none_blocks_at}
-use Rattle.planned.proofs.CommandFitLemmas.{delivery_alone, up_alone, offer_alone, local_alone, commands_after}
+use Rattle.shard_core.proofs.CommandFitLemmas.{delivery_alone, up_alone, offer_alone, local_alone, commands_after}
 
 -- ---- the clock
 

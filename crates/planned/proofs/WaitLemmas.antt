@@ -26,7 +26,7 @@ use Rattle.courses.specs.Walks.{is_out}
 use Rattle.planned.specs.Leaving.{leaving}
 use Rattle.planned.specs.Course.{event_of, if_met, tells, does, may_by, demand_of, state_next, may}
 use Rattle.planned.specs.Laws.{is_unsettled, Waits, ForCall, ToBeTold}
-use Rattle.planned.proofs.KnownLemmas.{writes_it, CommandFits, IsReached, open_numbered}
+use Rattle.shard_core.proofs.KnownLemmas.{writes_it, CommandFits, IsReached, open_numbered}
 use Rattle.planned.proofs.HaltLemmas.{is_written, HaltsTo}
 use Rattle.planned.proofs.DemandLemmas.{WaitsFor, waits_for}
 

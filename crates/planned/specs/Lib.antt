@@ -2,5 +2,4 @@ pub mod Leaving
 pub mod Course
 pub mod Late
 pub mod Laws
-pub mod Pending
 pub mod Follows

@@ -2,7 +2,7 @@
 
 ghost use Rattle.planned.specs.Laws.{OfEveryWorld, AllWaitInTime, MayIsMet, NextIsMet, LeavingIsMet, LeavingIsQuiet, NoneBlocks};
 ghost use Rattle.planned.specs.Follows.{MayIsOwn, LeavingIsOwn, CourseIsMet, NextKeeps, LeavingKeeps, OthersKeep};
-ghost use Rattle.planned.specs.Pending.{ActorsFitAlways};
+ghost use Rattle.shard_core.specs.Pending.{ActorsFitAlways};
 
 /// In every history, what a command may do next meets its row's condition.
 pub fn next_is_met()

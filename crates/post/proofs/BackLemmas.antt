@@ -15,7 +15,7 @@ use Rattle.post.specs.Posted.{with_answer, answers_now, sent_at, answers_what_wa
 use Rattle.post.specs.Kept.{direction_of, waits_in, asked_by, without_last, list_of, forgotten_by, unanswered_by, AreQueues, AreAnswers, AreKept}
 use Rattle.post.proofs.ChangeLemmas.{changed_far, length_changed, length_changed_at, member_changed, last_forgotten}
 use Rattle.post.proofs.NumberLemmas.{numbers_push, numbers_stay}
-use Rattle.post.proofs.KeptLemmas.{list_changed, some_short}
+use Rattle.post.proofs.KeptLemmas.{and_true, and_false, list_changed, some_short}
 
 -- ---- another answer
 
@@ -90,17 +90,9 @@ none_answers aliases ms queues lists c now kept sent =
 
 -- ---- the last message is taken back
 
-popped : (b : Bool) (n : ℕ) (q ns : List ℕ) → q ≡ ns ++ cond b (n ∷ []) [] → cond b (without_last q) q ≡ ns
+pub popped : (b : Bool) (n : ℕ) (q ns : List ℕ) → q ≡ ns ++ cond b (n ∷ []) [] → cond b (without_last q) q ≡ ns
 popped true n q ns e = ap without_last e ∙ last_forgotten n ns
 popped false n q ns e = e ∙ append-nil ns
-
-and_true : (b : Bool) → (b && true) ≡ b
-and_true true = refl
-and_true false = refl
-
-and_false : (b : Bool) → (b && false) ≡ false
-and_false true = refl
-and_false false = refl
 
 queues_back : (aliases : List Alias) (ys : List Message) (m : Message) (queues : List (List ℕ)) (t : Bool) → is_on_its_way m ≡ t → AreQueues aliases (ys ++ m ∷ []) queues
     → AreQueues aliases ys (cond t (changed queues (direction_of aliases m.content) without_last) queues)
@@ -217,7 +209,7 @@ lists_back ys m lists size none kept k = by_place (order k (length ys))
 
 back_last : (aliases : List Alias) (ys : List Message) (m : Message) (queues lists : List (List ℕ)) → AreKept aliases (ys ++ m ∷ []) queues lists
     → answers_on (ys ++ m ∷ []) (length ys + 1) ≡ []
-    → AreKept aliases ys (forgotten_by aliases queues (Some m)) (take (length ys) (unanswered_by lists (Some m)))
+    → AreKept aliases ys (forgotten_by (direction_of aliases) queues (Some m)) (take (length ys) (unanswered_by lists (Some m)))
 back_last aliases ys m queues lists kept none =
     let size : length lists ≡ length ys + 1 = kept.calls ∙ length-append ys (m ∷ []) in
     record {
@@ -240,10 +232,10 @@ back_last aliases ys m queues lists kept none =
     taken_size (x ∷ xs) (suc n) le = ap suc (taken_size xs n (omega arith))
 
 -- nothing, or a last member
-abbrev Ends : {A : Type 0} → List A → Type 0
+abbrev pub Ends : {A : Type 0} → List A → Type 0
 Ends {A} xs = (xs ≡ []) ⊎ ((ys : List A) × (y : A) × (xs ≡ ys ++ y ∷ []))
 
-ends : {A : Type 0} (xs : List A) → Ends xs
+pub ends : {A : Type 0} (xs : List A) → Ends xs
 ends [] = inl refl
 ends {A} (x ∷ xs) = of_rest (ends xs)
   where
@@ -253,7 +245,7 @@ ends {A} (x ∷ xs) = of_rest (ends xs)
 
 abbrev Back : List Alias → List Message → List (List ℕ) → List (List ℕ) → Type 0
 Back aliases ms queues lists =
-    AreKept aliases (take (length ms - 1) ms) (forgotten_by aliases queues (numbered ms (length ms))) (take (length lists - 1) (unanswered_by lists (numbered ms (length ms))))
+    AreKept aliases (take (length ms - 1) ms) (forgotten_by (direction_of aliases) queues (numbered ms (length ms))) (take (length lists - 1) (unanswered_by lists (numbered ms (length ms))))
 
 back_by : (aliases : List Alias) (ms : List Message) (queues lists : List (List ℕ)) → Ends ms → AreKept aliases ms queues lists → answers_on ms (length ms) ≡ []
     → Back aliases ms queues lists
@@ -279,22 +271,22 @@ back_by aliases ms queues lists (inr h) kept none =
     let free : answers_on (ys ++ m ∷ []) (length ys + 1) ≡ [] =
     sym (ap (λ (k : ℕ). answers_on (ys ++ m ∷ []) k) count) ∙ subst (λ (xs : List Message). answers_on xs (length xs) ≡ []) e none in
     let front : take (length (ys ++ m ∷ []) - 1) (ys ++ m ∷ []) ≡ ys = ap (λ (k : ℕ). take k (ys ++ m ∷ [])) less ∙ take-append_seam ys (m ∷ []) in
-    let done : AreKept aliases ys (forgotten_by aliases queues (Some m)) (take (length ys) (unanswered_by lists (Some m))) = back_last aliases ys m queues lists whole free in
+    let done : AreKept aliases ys (forgotten_by (direction_of aliases) queues (Some m)) (take (length ys) (unanswered_by lists (Some m))) = back_last aliases ys m queues lists whole free in
     subst (λ (xs : List Message). Back aliases xs queues lists) (sym e)
-    (subst (λ (o : Option Message). AreKept aliases (take (length (ys ++ m ∷ []) - 1) (ys ++ m ∷ [])) (forgotten_by aliases queues o) (take (length lists - 1) (unanswered_by lists o))) (sym last)
-    (subst (λ (k : ℕ). AreKept aliases (take (length (ys ++ m ∷ []) - 1) (ys ++ m ∷ [])) (forgotten_by aliases queues (Some m)) (take k (unanswered_by lists (Some m)))) (sym lists_less)
-    (subst (λ (xs : List Message). AreKept aliases xs (forgotten_by aliases queues (Some m)) (take (length ys) (unanswered_by lists (Some m)))) (sym front) done)))
+    (subst (λ (o : Option Message). AreKept aliases (take (length (ys ++ m ∷ []) - 1) (ys ++ m ∷ [])) (forgotten_by (direction_of aliases) queues o) (take (length lists - 1) (unanswered_by lists o))) (sym last)
+    (subst (λ (k : ℕ). AreKept aliases (take (length (ys ++ m ∷ []) - 1) (ys ++ m ∷ [])) (forgotten_by (direction_of aliases) queues (Some m)) (take k (unanswered_by lists (Some m)))) (sym lists_less)
+    (subst (λ (xs : List Message). AreKept aliases xs (forgotten_by (direction_of aliases) queues (Some m)) (take (length ys) (unanswered_by lists (Some m)))) (sym front) done)))
 
 pub kept_back : (aliases read : List Alias) (ms seen new : List Message) (queues after lists less : List (List ℕ)) (number : ℕ) → AreKept aliases ms queues lists
     → answers_on ms (length ms) ≡ [] → number ≡ length ms → read ≡ aliases → seen ≡ ms
-    → after ≡ forgotten_by read queues (numbered seen number) → less ≡ take (length lists - 1) (unanswered_by lists (numbered seen number))
+    → after ≡ forgotten_by (direction_of read) queues (numbered seen number) → less ≡ take (length lists - 1) (unanswered_by lists (numbered seen number))
     → new ≡ take (length ms - 1) ms → AreKept aliases new after less
 kept_back aliases read ms seen new queues after lists less number kept none is one two three four five =
     let o : numbered seen number ≡ numbered ms (length ms) = ap (λ (xs : List Message). numbered xs number) two ∙ ap (λ (k : ℕ). numbered ms k) is in
-    let first : after ≡ forgotten_by aliases queues (numbered ms (length ms)) =
-    three ∙ ap (λ (xs : List Alias). forgotten_by xs queues (numbered seen number)) one ∙ ap (λ (x : Option Message). forgotten_by aliases queues x) o in
+    let first : after ≡ forgotten_by (direction_of aliases) queues (numbered ms (length ms)) =
+    three ∙ ap (λ (xs : List Alias). forgotten_by (direction_of xs) queues (numbered seen number)) one ∙ ap (λ (x : Option Message). forgotten_by (direction_of aliases) queues x) o in
     let second : less ≡ take (length lists - 1) (unanswered_by lists (numbered ms (length ms))) = four ∙ ap (λ (x : Option Message). take (length lists - 1) (unanswered_by lists x)) o in
     subst (λ (xs : List Message). AreKept aliases xs after less) (sym five)
     (subst (λ (qs : List (List ℕ)). AreKept aliases (take (length ms - 1) ms) qs less) (sym first)
-    (subst (λ (ls : List (List ℕ)). AreKept aliases (take (length ms - 1) ms) (forgotten_by aliases queues (numbered ms (length ms))) ls) (sym second)
+    (subst (λ (ls : List (List ℕ)). AreKept aliases (take (length ms - 1) ms) (forgotten_by (direction_of aliases) queues (numbered ms (length ms))) ls) (sym second)
     (back_by aliases ms queues lists (ends ms) kept none)))

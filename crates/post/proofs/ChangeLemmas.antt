@@ -69,7 +69,7 @@ last_forgotten n ns =
 
 -- ---- members after a change
 
-next_test : {A : Type 0} (k d : ℕ) (x y : A) → cond (k == d) x y ≡ cond (suc k == suc d) x y
+pub next_test : {A : Type 0} (k d : ℕ) (x y : A) → cond (k == d) x y ≡ cond (suc k == suc d) x y
 next_test {A} k d x y = ap (λ (t : Bool). cond t x y) (let same : (k == d) ≡ (suc k == suc d) = grind (arith, nat_tests) in same)
 
 pub nothing_changed : {A : Type 0} (k d : ℕ) (x y : A) → (k == d) ≡ false → y ≡ cond (k == d) x y

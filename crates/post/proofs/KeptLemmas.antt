@@ -11,7 +11,7 @@ use Rattle.shard_calls.specs.declared.post.Message.{Message}
 use Rattle.shard_calls.specs.Messages.{answers_call}
 use Rattle.shard_calls.specs.World.{changed, changed_at, numbered, vanishes}
 use Rattle.post.specs.Directions.{place_from, place_to}
-use Rattle.post.specs.Waiting.{numbers_of, is_on_its_way, waits, waiting_on, answers_on}
+use Rattle.post.specs.Waiting.{numbers_of, is_on_its_way, waits_under, waits, waiting_on, answers_on}
 use Rattle.post.specs.Posted.{sent_at, answers_what_was_sent}
 use Rattle.post.specs.Kept.{direction, direction_of, waits_in, asked_by, with_number, taken_out, list_of, left_by, AreQueues, AreAnswers, AreKept}
 use Rattle.post.proofs.ChangeLemmas.{changed_far, none_far, length_changed, length_changed_at, nothing_changed, member_changed, changed_member, default_pushed}
@@ -35,11 +35,11 @@ answers_new (suc k) = refl
 
 -- ---- a message is sent
 
-joined : (b : Bool) (n : ℕ) (ns ms : List ℕ) → ns ≡ ms → cond b (with_number n ns) ns ≡ ms ++ cond b (n ∷ []) []
+pub joined : (b : Bool) (n : ℕ) (ns ms : List ℕ) → ns ≡ ms → cond b (with_number n ns) ns ≡ ms ++ cond b (n ∷ []) []
 joined true n ns ms e = ap (λ (is : List ℕ). is ++ n ∷ []) e
 joined false n ns ms e = e ∙ sym (append-nil ms)
 
-and_true : (b : Bool) → (b && true) ≡ b
+pub and_true : (b : Bool) → (b && true) ≡ b
 and_true true = refl
 and_true false = refl
 
@@ -98,48 +98,48 @@ answers_stay ms lists (suc j) f keeps kept call =
     kept call ∙ sym (numbers_stay 1 (λ m. answers_call call m.content) f ms j (λ m here. ap (λ (c : Content). answers_call call c) (keeps m)))
 
 -- it waits as it did
-waits_same : (aliases : List Alias) (d : ℕ) (f : Message → Message) (m : Message) → KeepsContent f → is_on_its_way (f m) ≡ is_on_its_way m
-    → waits_in aliases d (f m) ≡ waits_in aliases d m
-waits_same aliases d f m keeps way =
-    ap (λ (c : Content). (direction_of aliases c == d) && is_on_its_way (f m)) (keeps m) ∙ ap (λ (b : Bool). (direction_of aliases m.content == d) && b) way
+pub waits_same : (of : Content → ℕ) (d : ℕ) (f : Message → Message) (m : Message) → of (f m).content ≡ of m.content → is_on_its_way (f m) ≡ is_on_its_way m
+    → waits_under of d (f m) ≡ waits_under of d m
+waits_same of d f m keeps way =
+    ap (λ (n : ℕ). (n == d) && is_on_its_way (f m)) keeps ∙ ap (λ (b : Bool). (of m.content == d) && b) way
 
 pub queues_stay : (aliases : List Alias) (ms : List Message) (queues : List (List ℕ)) (k : ℕ) (f : Message → Message) → KeepsContent f
     → ((m : Message) → is_on_its_way (f m) ≡ is_on_its_way m) → AreQueues aliases ms queues → AreQueues aliases (changed_at ms k f) queues
 queues_stay aliases ms queues zero f keeps way kept d short = kept d short
 queues_stay aliases ms queues (suc j) f keeps way kept d short =
-    kept d short ∙ sym (numbers_stay 1 (waits_in aliases d) f ms j (λ m here. waits_same aliases d f m keeps (way m)))
+    kept d short ∙ sym (numbers_stay 1 (waits_in aliases d) f ms j (λ m here. waits_same (direction_of aliases) d f m (ap (direction_of aliases) (keeps m)) (way m)))
 
 -- it waits no more
 
-and_false : (b : Bool) → (b && false) ≡ false
+pub and_false : (b : Bool) → (b && false) ≡ false
 and_false true = refl
 and_false false = refl
 
 -- it does not wait in this direction
-waits_not : (aliases : List Alias) (d : ℕ) (m : Message) → is_on_its_way m ≡ false → waits_in aliases d m ≡ false
-waits_not aliases d m way = ap (λ (b : Bool). (direction_of aliases m.content == d) && b) way ∙ and_false (direction_of aliases m.content == d)
+pub waits_not : (of : Content → ℕ) (d : ℕ) (m : Message) → is_on_its_way m ≡ false → waits_under of d m ≡ false
+waits_not of d m way = ap (λ (b : Bool). (of m.content == d) && b) way ∙ and_false (of m.content == d)
 
-waits_elsewhere : (aliases : List Alias) (d : ℕ) (m : Message) → (direction_of aliases m.content == d) ≡ false → waits_in aliases d m ≡ false
-waits_elsewhere aliases d m apart = ap (λ (b : Bool). b && is_on_its_way m) apart
+waits_elsewhere : (of : Content → ℕ) (d : ℕ) (m : Message) → (of m.content == d) ≡ false → waits_under of d m ≡ false
+waits_elsewhere of d m apart = ap (λ (b : Bool). b && is_on_its_way m) apart
 
-waits_here : (aliases : List Alias) (d : ℕ) (m : Message) → (direction_of aliases m.content == d) ≡ true → is_on_its_way m ≡ true → waits_in aliases d m ≡ true
-waits_here aliases d m same way = ap (λ (b : Bool). b && is_on_its_way m) same ∙ way
+waits_here : (of : Content → ℕ) (d : ℕ) (m : Message) → (of m.content == d) ≡ true → is_on_its_way m ≡ true → waits_under of d m ≡ true
+waits_here of d m same way = ap (λ (b : Bool). b && is_on_its_way m) same ∙ way
 
-the_member : (ms : List Message) (j : ℕ) (m x : Message) (P : Message → Type 0) → slice_get ms j ≡ Some m → slice_get ms j ≡ Some x → P m → P x
+pub the_member : (ms : List Message) (j : ℕ) (m x : Message) (P : Message → Type 0) → slice_get ms j ≡ Some m → slice_get ms j ≡ Some x → P m → P x
 the_member ms j m x P one two p = subst P (let same : m ≡ x = cc in same) p
 
 -- one queue once the message has left, by whether it waited there
-one_left : (aliases : List Alias) (ms : List Message) (queue : List ℕ) (j d : ℕ) (f : Message → Message) (m : Message) (t : Bool) → slice_get ms j ≡ Some m → is_on_its_way m ≡ true
-    → ((x : Message) → is_on_its_way (f x) ≡ false) → (direction_of aliases m.content == d) ≡ t → queue ≡ numbers_of (waits_in aliases d) ms
-    → cond t (taken_out (suc j) queue) queue ≡ numbers_of (waits_in aliases d) (changed ms j f)
-one_left aliases ms queue j d f m true at way gone same kept =
+pub one_left : (of : Content → ℕ) (ms : List Message) (queue : List ℕ) (j d : ℕ) (f : Message → Message) (m : Message) (t : Bool) → slice_get ms j ≡ Some m → is_on_its_way m ≡ true
+    → ((x : Message) → is_on_its_way (f x) ≡ false) → (of m.content == d) ≡ t → queue ≡ numbers_of (waits_under of d) ms
+    → cond t (taken_out (suc j) queue) queue ≡ numbers_of (waits_under of d) (changed ms j f)
+one_left of ms queue j d f m true at way gone same kept =
     ap (taken_out (suc j)) kept
-    ∙ sym (numbers_out 1 (suc j) (waits_in aliases d) f ms j (omega arith) (λ x here.
-    (the_member ms j m x (λ y. waits_in aliases d y ≡ true) at here (waits_here aliases d m same way), waits_not aliases d (f x) (gone x))))
-one_left aliases ms queue j d f m false at way gone same kept =
+    ∙ sym (numbers_out 1 (suc j) (waits_under of d) f ms j (omega arith) (λ x here.
+    (the_member ms j m x (λ y. waits_under of d y ≡ true) at here (waits_here of d m same way), waits_not of d (f x) (gone x))))
+one_left of ms queue j d f m false at way gone same kept =
     kept
-    ∙ sym (numbers_stay 1 (waits_in aliases d) f ms j (λ x here.
-    waits_not aliases d (f x) (gone x) ∙ sym (the_member ms j m x (λ y. waits_in aliases d y ≡ false) at here (waits_elsewhere aliases d m same))))
+    ∙ sym (numbers_stay 1 (waits_under of d) f ms j (λ x here.
+    waits_not of d (f x) (gone x) ∙ sym (the_member ms j m x (λ y. waits_under of d y ≡ false) at here (waits_elsewhere of d m same))))
 
 by_way : (aliases : List Alias) (ms : List Message) (queues : List (List ℕ)) (j : ℕ) (f : Message → Message) (m : Message) (t : Bool) → slice_get ms j ≡ Some m → is_on_its_way m ≡ t
     → ((x : Message) → is_on_its_way (f x) ≡ false) → AreQueues aliases ms queues
@@ -147,19 +147,19 @@ by_way : (aliases : List Alias) (ms : List Message) (queues : List (List ℕ)) (
 by_way aliases ms queues j f m true at way gone kept d short =
     let old : d < length queues = omega (arith, short, length_changed queues (direction_of aliases m.content) (taken_out (suc j))) in
     member_changed queues (direction_of aliases m.content) d (taken_out (suc j)) [] old
-    ∙ one_left aliases ms (get_or queues d []) j d f m (direction_of aliases m.content == d) at way gone refl (kept d old)
+    ∙ one_left (direction_of aliases) ms (get_or queues d []) j d f m (direction_of aliases m.content == d) at way gone refl (kept d old)
 by_way aliases ms queues j f m false at way gone kept d short =
     kept d short
     ∙ sym (numbers_stay 1 (waits_in aliases d) f ms j (λ x here.
-    waits_not aliases d (f x) (gone x) ∙ sym (the_member ms j m x (λ y. waits_in aliases d y ≡ false) at here (waits_not aliases d m way))))
+    waits_not (direction_of aliases) d (f x) (gone x) ∙ sym (the_member ms j m x (λ y. waits_in aliases d y ≡ false) at here (waits_not (direction_of aliases) d m way))))
 
 by_member : (aliases : List Alias) (ms : List Message) (queues : List (List ℕ)) (j : ℕ) (f : Message → Message) (o : Option Message) → slice_get ms j ≡ o
-    → ((x : Message) → is_on_its_way (f x) ≡ false) → AreQueues aliases ms queues → AreQueues aliases (changed ms j f) (left_by aliases queues (suc j) o)
+    → ((x : Message) → is_on_its_way (f x) ≡ false) → AreQueues aliases ms queues → AreQueues aliases (changed ms j f) (left_by (direction_of aliases) queues (suc j) o)
 by_member aliases ms queues j f None at gone kept = subst (λ (xs : List Message). AreQueues aliases xs queues) (changed_far ms j f (none_far ms j at)) kept
 by_member aliases ms queues j f (Some m) at gone kept = by_way aliases ms queues j f m (is_on_its_way m) at refl gone kept
 
 pub queues_left : (aliases : List Alias) (ms : List Message) (queues : List (List ℕ)) (k : ℕ) (f : Message → Message)
-    → ((x : Message) → is_on_its_way (f x) ≡ false) → AreQueues aliases ms queues → AreQueues aliases (changed_at ms k f) (left_by aliases queues k (numbered ms k))
+    → ((x : Message) → is_on_its_way (f x) ≡ false) → AreQueues aliases ms queues → AreQueues aliases (changed_at ms k f) (left_by (direction_of aliases) queues k (numbered ms k))
 queues_left aliases ms queues zero f gone kept = kept
 queues_left aliases ms queues (suc j) f gone kept = by_member aliases ms queues j f (slice_get ms j) refl gone kept
 
@@ -167,7 +167,7 @@ left_length : (aliases : List Alias) (queues : List (List ℕ)) (k : ℕ) (m : M
 left_length aliases queues k m true = length_changed queues (direction_of aliases m.content) (taken_out k)
 left_length aliases queues k m false = refl
 
-pub length_left : (aliases : List Alias) (queues : List (List ℕ)) (k : ℕ) (o : Option Message) → length (left_by aliases queues k o) ≡ length queues
+pub length_left : (aliases : List Alias) (queues : List (List ℕ)) (k : ℕ) (o : Option Message) → length (left_by (direction_of aliases) queues k o) ≡ length queues
 length_left aliases queues k None = refl
 length_left aliases queues k (Some m) = left_length aliases queues k m (is_on_its_way m)
 
@@ -231,11 +231,11 @@ kept_stays aliases ms new queues answers k f keeps way e kept =
 
 -- a message that waits no more
 pub kept_left : (aliases read : List Alias) (ms seen new : List Message) (queues after answers : List (List ℕ)) (k : ℕ) (f : Message → Message) → KeepsContent f
-    → ((m : Message) → is_on_its_way (f m) ≡ false) → read ≡ aliases → seen ≡ ms → after ≡ left_by read queues k (numbered seen k) → new ≡ changed_at ms k f
+    → ((m : Message) → is_on_its_way (f m) ≡ false) → read ≡ aliases → seen ≡ ms → after ≡ left_by (direction_of read) queues k (numbered seen k) → new ≡ changed_at ms k f
     → AreKept aliases ms queues answers → AreKept aliases new after answers
 kept_left aliases read ms seen new queues after answers k f keeps gone one two left e kept =
-    let is : after ≡ left_by aliases queues k (numbered ms k) =
-    left ∙ ap (λ (xs : List Alias). left_by xs queues k (numbered seen k)) one ∙ ap (λ (xs : List Message). left_by aliases queues k (numbered xs k)) two in
+    let is : after ≡ left_by (direction_of aliases) queues k (numbered ms k) =
+    left ∙ ap (λ (xs : List Alias). left_by (direction_of xs) queues k (numbered seen k)) one ∙ ap (λ (xs : List Message). left_by (direction_of aliases) queues k (numbered xs k)) two in
     subst (λ (xs : List Message). AreKept aliases xs after answers) (sym e)
     (subst (λ (qs : List (List ℕ)). AreKept aliases (changed_at ms k f) qs answers) (sym is) (record {
       few = kept.few;

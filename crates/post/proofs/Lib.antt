@@ -4,3 +4,4 @@ pub mod QueueLemmas
 pub mod KeptLemmas
 pub mod MemberLemmas
 pub mod BackLemmas
+pub mod WayLemmas

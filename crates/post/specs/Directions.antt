@@ -24,6 +24,13 @@ place_to aliases (contents.Answers command asked from says) = 0
 place_to aliases (contents.Feeds from to term after index e) = place_of aliases to
 place_to aliases (contents.Acks from to term index) = place_of aliases to
 
+-- whom it is for: an answer for the command of this number, counted from 1, and any other message for a tablet, which is 0
+abbrev pub receiver : Content → ℕ
+receiver (contents.Asks command term to call) = 0
+receiver (contents.Answers command asked from says) = command
+receiver (contents.Feeds from to term after index e) = 0
+receiver (contents.Acks from to term index) = 0
+
 -- whether it goes from the one place to the other
 abbrev pub goes : List Alias → ℕ → ℕ → Content → Bool
 goes aliases from to c = (place_from aliases c == from) && (place_to aliases c == to)

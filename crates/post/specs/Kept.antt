@@ -1,12 +1,13 @@
--- What is kept beside the messages: for each direction the numbers of those that wait on it, and for each message those of its answers.
-use Rattle.std.specs.Prelude.{◌≡◌, ℕ, zero, suc, ◌+◌, ◌*◌, ◌≤◌, ◌<◌, Bool, ◌&&◌, ◌==◌, List, [], ◌∷◌, ◌++◌, Option, Some, None, length, get_or, take, ◌-◌, if◌then◌else◌}
+-- What is kept beside the messages: for each direction the numbers of its messages that wait, for each receiver those of the messages that wait for
+-- it, and for each message those of its answers.
+use Rattle.std.specs.Prelude.{◌≡◌, ℕ, zero, suc, ◌+◌, ◌*◌, ◌≤◌, ◌<◌, Bool, ◌==◌, List, [], ◌∷◌, ◌++◌, Option, Some, None, length, get_or, take, ◌-◌, if◌then◌else◌}
 use Rattle.shard_names.specs.declared.alias.Alias.{Alias}
 use Rattle.shard_calls.specs.declared.post.Content.{Content}
 use Rattle.shard_calls.specs.declared.post.Content.TheVariants as contents
 use Rattle.shard_calls.specs.declared.post.Message.{Message}
 use Rattle.shard_calls.specs.World.{changed, changed_at}
 use Rattle.post.specs.Directions.{place_from, place_to}
-use Rattle.post.specs.Waiting.{numbers_of, is_on_its_way, answers_on}
+use Rattle.post.specs.Waiting.{numbers_of, is_on_its_way, waits_under, waiting_for, answers_on}
 use Rattle.post.specs.Posted.{Posted}
 use Rattle.post.specs.declared.messages.Post.TheInside.{Inside}
 
@@ -19,7 +20,7 @@ direction_of aliases c = direction (place_from aliases c) (place_to aliases c)
 
 -- whether it waits on the direction of this number
 abbrev pub waits_in : List Alias → ℕ → Message → Bool
-waits_in aliases d m = (direction_of aliases m.content == d) && is_on_its_way m
+waits_in aliases d m = waits_under (direction_of aliases) d m
 
 -- the call that it answers, or 0
 abbrev pub asked_by : Content → ℕ
@@ -46,19 +47,27 @@ abbrev pub list_of : List (List ℕ) → ℕ → List ℕ
 list_of lists zero = []
 list_of lists (suc k) = get_or lists k []
 
--- the queues once the message of a number does not wait any more
-abbrev pub left_by : List Alias → List (List ℕ) → ℕ → Option Message → List (List ℕ)
-left_by aliases queues k None = queues
-left_by aliases queues k (Some m) = if is_on_its_way m then changed queues (direction_of aliases m.content) (taken_out k) else queues
+-- queues, each under its number, once the message of a number does not wait any more
+abbrev pub left_by : (Content → ℕ) → List (List ℕ) → ℕ → Option Message → List (List ℕ)
+left_by of queues k None = queues
+left_by of queues k (Some m) = if is_on_its_way m then changed queues (of m.content) (taken_out k) else queues
 
 -- the queues and the lists once the last message is gone, whose number ends its queue, if it waits, and the list of the call that it answers
-abbrev pub forgotten_by : List Alias → List (List ℕ) → Option Message → List (List ℕ)
-forgotten_by aliases queues None = queues
-forgotten_by aliases queues (Some m) = if is_on_its_way m then changed queues (direction_of aliases m.content) without_last else queues
+abbrev pub forgotten_by : (Content → ℕ) → List (List ℕ) → Option Message → List (List ℕ)
+forgotten_by of queues None = queues
+forgotten_by of queues (Some m) = if is_on_its_way m then changed queues (of m.content) without_last else queues
 
 abbrev pub unanswered_by : List (List ℕ) → Option Message → List (List ℕ)
 unanswered_by lists None = lists
 unanswered_by lists (Some m) = changed_at lists (asked_by m.content) without_last
+
+-- each of the one has the numbers that it has in the other: there may be more of them, with no number
+abbrev pub HoldSame : List (List ℕ) → List (List ℕ) → Type 0
+HoldSame old new = (k : ℕ) → get_or new k [] ≡ get_or old k []
+
+-- one has this number more, at its end
+abbrev pub HasJoined : List (List ℕ) → List (List ℕ) → ℕ → ℕ → Type 0
+HasJoined old new at n = (k : ℕ) → get_or new k [] ≡ (if at == k then with_number n (get_or old k []) else get_or old k [])
 
 -- ---- the invariant
 
@@ -77,8 +86,12 @@ pub record AreKept (aliases : List Alias) (messages : List Message) (lists repli
   pub calls : length replies ≡ length messages
   pub answers : AreAnswers messages replies
 
+-- each inbox has the numbers that wait for its receiver, and nothing waits for who has none
+abbrev pub AreInboxes : List Message → List (List ℕ) → Type 0
+AreInboxes messages inboxes = (k : ℕ) → get_or inboxes k [] ≡ waiting_for messages k
+
 abbrev pub posted_of : Inside → Posted
 posted_of a = record { aliases = a.aliases.items; messages = a.messages.items }
 
 abbrev pub IsKept : Inside → Type 0
-IsKept a = AreKept a.aliases.items a.messages.items a.queues.items a.answers.items
+IsKept a = AreKept a.aliases.items a.messages.items a.queues.items a.answers.items × AreInboxes a.messages.items a.inboxes.items

@@ -5,7 +5,7 @@ use Rattle.shard_names.specs.declared.alias.Alias.{Alias}
 use Rattle.shard_calls.specs.declared.post.Message.{Message}
 use Rattle.shard_calls.specs.Messages.{answers_call, passes}
 use Rattle.shard_calls.specs.World.{numbered}
-use Rattle.post.specs.Waiting.{waits, waiting_on, answers_on}
+use Rattle.post.specs.Waiting.{waits_for, waiting_for, waits, waiting_on, answers_on}
 
 abbrev pub has_number : List ℕ → ℕ → Bool
 has_number ns k = list_any (λ n. n == k) ns
@@ -15,7 +15,14 @@ abbrev pub RiseFrom : ℕ → List ℕ → Type 0
 RiseFrom low [] = ⊤
 RiseFrom low (n ∷ ns) = (low < n) × RiseFrom n ns
 
--- a number is among those that wait if its message does, and else not
+-- a number is among those that wait for a receiver if its message does, and else not
+abbrev pub InboxIsExact : Type 0
+InboxIsExact = (messages : List Message) (to k : ℕ) → has_number (waiting_for messages to) k ≡ passes (waits_for to) (numbered messages k)
+
+abbrev pub InboxRises : Type 0
+InboxRises = (messages : List Message) (to : ℕ) → RiseFrom 0 (waiting_for messages to)
+
+-- a number is among those that wait on a direction if its message does, and else not
 abbrev pub WaitingIsExact : Type 0
 WaitingIsExact = (aliases : List Alias) (messages : List Message) (from to k : ℕ)
     → has_number (waiting_on aliases messages from to) k ≡ passes (waits aliases from to) (numbered messages k)

@@ -1,9 +1,12 @@
+//! What is kept beside the messages: queues of their numbers by direction and by receiver, and the answers to each call.
+
 ghost use Rattle.std.specs.Prelude.{◌≡◌, ◌<◌, ◌≤◌, ◌+◌, ◌-◌, ◌*◌, ◌∷◌, ◌++◌, [], replicate, take, length, OnOk, OnErr, IfOk};
 ghost use Rattle.shard_calls.specs.World.{numbered, changed, changed_at};
-ghost use Rattle.post.specs.Kept.{with_number, without_last, taken_out, left_by, forgotten_by, unanswered_by};
+ghost use Rattle.post.specs.Directions.{receiver};
+ghost use Rattle.post.specs.Kept.{direction_of, with_number, without_last, taken_out, left_by, forgotten_by, unanswered_by, HoldSame, HasJoined};
 
 use crate::change::{index_of, is_on_its_way, message_at, push_message};
-use crate::direction::{asked_by, direction_of};
+use crate::direction::{asked_by, direction_of, receiver};
 use crate::queue::Queue;
 use shard_base::{Items, OutOfMemory};
 use shard_calls::Message;
@@ -42,6 +45,36 @@ fn leave_queue(queues: &mut Vec<Queue>, at: usize, number: u64)
     queues[at].take_out(number);
 }
 
+/// There is an inbox for this receiver, which is empty if it is new. Those before it become as many.
+fn make_room(inboxes: &mut Vec<Queue>, to: usize) -> Result<(), OutOfMemory>
+    ensures same { HoldSame inboxes.old.items inboxes.new.items }
+    ensures room { OnOk result (to < length inboxes.new.items) }
+{
+    let alloc = *inboxes.allocator();
+    while inboxes.len() <= to {
+        inboxes.push(Queue::new(alloc))?;
+    }
+    Ok(())
+}
+
+/// The number leaves the inbox of this receiver, if there is one.
+fn leave_inbox(inboxes: &mut Vec<Queue>, to: usize, number: u64)
+    ensures { inboxes.new.items ≡ changed inboxes.old.items to (taken_out number) }
+{
+    if to < inboxes.len() {
+        leave_queue(inboxes, to, number);
+    }
+}
+
+/// The last number of the inbox of this receiver is gone, if there is one.
+fn forget_inbox(inboxes: &mut Vec<Queue>, to: usize)
+    ensures { inboxes.new.items ≡ changed inboxes.old.items to without_last }
+{
+    if to < inboxes.len() {
+        forget_last(inboxes, to);
+    }
+}
+
 fn add_answer(answers: &mut [Items<u64>], call: u64, number: u64) -> Result<(), OutOfMemory>
     ensures ok { OnOk result (answers.new ≡ changed_at answers.old call (with_number number)) }
     ensures err { OnErr result (answers.new ≡ answers.old) }
@@ -76,11 +109,42 @@ fn enter(
     }
 }
 
-/// A new message with what is kept beside it, all or nothing.
+/// Puts the number at the end of the inbox of its receiver, too. Want of memory changes nothing.
+fn enter_all(
+    inboxes: &mut Vec<Queue>,
+    to: usize,
+    queues: &mut Vec<Queue>,
+    at: usize,
+    answers: &mut [Items<u64>],
+    call: u64,
+    number: u64,
+) -> Result<(), OutOfMemory>
+    requires inbox { to < length inboxes.old.items }
+    requires queue { at < length queues.old.items }
+    ensures ok_inboxes { OnOk result (inboxes.new.items ≡ changed inboxes.old.items to (with_number number)) }
+    ensures ok_queues { OnOk result (queues.new.items ≡ changed queues.old.items at (with_number number)) }
+    ensures ok_answers { OnOk result (answers.new ≡ changed_at answers.old call (with_number number)) }
+    ensures err_inboxes { OnErr result (inboxes.new.items ≡ inboxes.old.items) }
+    ensures err_queues { OnErr result (queues.new.items ≡ queues.old.items) }
+    ensures err_answers { OnErr result (answers.new ≡ answers.old) }
+{
+    join_queue(inboxes, to, number)?;
+    match enter(queues, at, answers, call, number) {
+        Ok(()) => Ok(()),
+        Err(fault) => {
+            forget_last(inboxes, to);
+            Err(fault)
+        }
+    }
+}
+
+/// A new message with what is kept beside it, all or nothing: at most there is an empty inbox more.
 pub(crate) fn add(
     messages: &mut Vec<Message>,
+    inboxes: &mut Vec<Queue>,
     queues: &mut Vec<Queue>,
     answers: &mut Vec<Items<u64>>,
+    to: usize,
     at: usize,
     call: u64,
     message: Message,
@@ -88,9 +152,11 @@ pub(crate) fn add(
     requires { at < length queues.old.items }
     ensures number { IfOk result (λ number. number ≡ length messages.old.items + 1) }
     ensures ok_messages { OnOk result (messages.new.items ≡ messages.old.items ++ message ∷ []) }
+    ensures ok_inboxes { OnOk result (HasJoined inboxes.old.items inboxes.new.items to (length messages.old.items + 1)) }
     ensures ok_queues { OnOk result (queues.new.items ≡ changed queues.old.items at (with_number (length messages.old.items + 1))) }
     ensures ok_answers { OnOk result (answers.new.items ≡ changed_at answers.old.items call (with_number (length messages.old.items + 1)) ++ [] ∷ []) }
     ensures err_messages { OnErr result (messages.new.items ≡ messages.old.items) }
+    ensures err_inboxes { OnErr result (HoldSame inboxes.old.items inboxes.new.items) }
     ensures err_queues { OnErr result (queues.new.items ≡ queues.old.items) }
     ensures err_answers { OnErr result (answers.new.items ≡ answers.old.items) }
 {
@@ -98,34 +164,59 @@ pub(crate) fn add(
     let number = messages.len() as u64 + 1;
     messages.reserve(1)?;
     answers.reserve(1)?;
-    enter(queues, at, answers.as_mut_slice(), call, number)?;
+    make_room(inboxes, to)?;
+    enter_all(
+        inboxes,
+        to,
+        queues,
+        at,
+        answers.as_mut_slice(),
+        call,
+        number,
+    )?;
     answers.push_reserved(Items::new(alloc));
     push_message(messages, message);
     Ok(number)
 }
 
 /// The message of a number waits no more.
-pub(crate) fn leave(aliases: &[Alias], messages: &[Message], queues: &mut Vec<Queue>, number: u64)
+pub(crate) fn leave(
+    aliases: &[Alias],
+    messages: &[Message],
+    inboxes: &mut Vec<Queue>,
+    queues: &mut Vec<Queue>,
+    number: u64,
+)
     requires few { length aliases.now ≤ 32 }
     requires directions { length queues.old.items ≡ (length aliases.now + 2) * 34 }
-    ensures { queues.new.items ≡ left_by aliases.now queues.old.items number (numbered messages.now number) }
+    ensures inboxes { inboxes.new.items ≡ left_by receiver inboxes.old.items number (numbered messages.now number) }
+    ensures queues { queues.new.items ≡ left_by (direction_of aliases.now) queues.old.items number (numbered messages.now number) }
 {
     if let Some(message) = message_at(messages, number) {
         if is_on_its_way(message) {
             leave_queue(queues, direction_of(aliases, &message.content), number);
+            leave_inbox(inboxes, receiver(&message.content), number);
         }
     }
 }
 
 /// The last message, whose number this is, ends no queue any more.
-pub(crate) fn forget(aliases: &[Alias], messages: &[Message], queues: &mut Vec<Queue>, number: u64)
+pub(crate) fn forget(
+    aliases: &[Alias],
+    messages: &[Message],
+    inboxes: &mut Vec<Queue>,
+    queues: &mut Vec<Queue>,
+    number: u64,
+)
     requires few { length aliases.now ≤ 32 }
     requires directions { length queues.old.items ≡ (length aliases.now + 2) * 34 }
-    ensures { queues.new.items ≡ forgotten_by aliases.now queues.old.items (numbered messages.now number) }
+    ensures inboxes { inboxes.new.items ≡ forgotten_by receiver inboxes.old.items (numbered messages.now number) }
+    ensures queues { queues.new.items ≡ forgotten_by (direction_of aliases.now) queues.old.items (numbered messages.now number) }
 {
     if let Some(message) = message_at(messages, number) {
         if is_on_its_way(message) {
             forget_last(queues, direction_of(aliases, &message.content));
+            forget_inbox(inboxes, receiver(&message.content));
         }
     }
 }

@@ -1,3 +1,5 @@
+//! How one message changes: it is sent, arrives, is lost, is settled, or is taken back.
+
 ghost use Rattle.std.specs.Prelude.{◌≡◌, ◌<◌, ◌+◌, ◌∷◌, ◌++◌, ◌⊎◌, [], ◌-◌, length, take, vec_len, vec_capacity, MatchOption};
 ghost use Rattle.std.specs.Option.{option_copied};
 ghost use Rattle.shard_calls.specs.World.{numbered, changed_at, arrives, vanishes, settles};

@@ -1,6 +1,6 @@
 ghost use Rattle.std.specs.Prelude.{◌≡◌, ◌<◌, ◌≤◌, ◌+◌, ◌*◌, length, position};
 ghost use Rattle.shard_names.specs.Tablets.{alias_eq};
-ghost use Rattle.post.specs.Directions.{place_of, place_from, place_to};
+ghost use Rattle.post.specs.Directions.{place_of, place_from, place_to, receiver};
 ghost use Rattle.post.specs.Kept.{direction, direction_of, asked_by};
 
 use shard_calls::Content;
@@ -75,6 +75,18 @@ pub(crate) fn direction_of(aliases: &[Alias], content: &Content) -> usize
     let from = place_from(aliases, content);
     let to = place_to(aliases, content);
     direction(from, to)
+}
+
+/// Whom a message is for: the command that it answers by its number, or 0 for a tablet.
+pub(crate) fn receiver(content: &Content) -> usize
+    ensures { result ≡ receiver content.now }
+{
+    match content {
+        Content::Asks { .. } => 0,
+        Content::Answers { command, .. } => *command as usize,
+        Content::Feeds { .. } => 0,
+        Content::Acks { .. } => 0,
+    }
 }
 
 /// The number of the call that a message answers, or 0.

@@ -1,4 +1,4 @@
-//! The messages of one shard, with what waits on each way and the answers to each call at hand.
+//! The messages of one shard, with what waits, for each receiver and on each way, and the answers to each call at hand.
 #![tactic(auto)]
 
 mod beside;
@@ -10,6 +10,6 @@ mod queue;
 #[cfg(test)]
 mod tests;
 
-pub use laws::{answers_are_exact, waiting_is_exact};
+pub use laws::{answers_are_exact, inbox_is_exact, waiting_is_exact};
 pub use messages::Post;
 pub use queue::Queue;

@@ -1,15 +1,17 @@
-ghost use Rattle.std.specs.Prelude.{◌≡◌, ◌≤◌, ◌+◌, [], map, true, length, slice_get, OnOk, OnErr, IfOk};
+//! All messages of a shard, with what became of each.
+
+ghost use Rattle.std.specs.Prelude.{◌≡◌, ◌≤◌, ◌+◌, [], map, true, length, slice_get, unwrap_or, OnOk, OnErr, IfOk};
 ghost use Rattle.std.specs.Option.{option_copied};
 ghost use Rattle.shard_calls.specs.World.{numbered, arrives, vanishes, settles};
 ghost use Rattle.post.specs.Directions.{place_of, IsPlace};
-ghost use Rattle.post.specs.Waiting.{waiting_on, answers_on};
+ghost use Rattle.post.specs.Waiting.{waiting_for, waiting_on, answers_on};
 ghost use Rattle.post.specs.Posted.{with_sent, without_sent, on_number, answers_now, answers_what_was_sent};
 
 use crate::beside::{add, forget, forget_answers, leave, queues_of};
 use crate::change::{
     answer_at, arrive_at, drop_last, index_of, lose_at, message_at, sent_at, settle_at,
 };
-use crate::direction::{asked_by, count_of, direction, direction_of, place_of};
+use crate::direction::{asked_by, count_of, direction, direction_of, place_of, receiver};
 use crate::queue::Queue;
 use shard_base::{Items, OutOfMemory};
 use shard_calls::{Answer, Content, Message, Settled};
@@ -20,11 +22,13 @@ use std::marker::Model;
 /// All messages of one shard ever sent, and what became of each. A message goes by its number, counted from 1, and a tablet by its place:
 /// 1 for the first, with 0 for commands.
 ///
-/// What waits on each direction, and the answers to each call, are kept beside the messages, so that no function walks them.
+/// What waits for each receiver, what waits on each direction, and the answers to each call are kept beside the messages, so that no function
+/// walks them. The receivers are the commands by their numbers, counted from 1, and with 0 all tablets.
 #[derive(Drop)]
 pub struct Post {
     aliases: Vec<Alias>,
     messages: Vec<Message>,
+    inboxes: Vec<Queue>,
     queues: Vec<Queue>,
     answers: Vec<Items<u64>>,
 }
@@ -62,6 +66,7 @@ impl Post {
         Ok(Post {
             aliases,
             messages: Vec::new(alloc),
+            inboxes: Vec::new(alloc),
             queues,
             answers: Vec::new(alloc),
         })
@@ -95,6 +100,14 @@ impl Post {
         message_at(self.messages.as_slice(), number)
     }
 
+    /// The numbers of the messages that wait on their way to the command of a number, or with 0 to tablets, rising. It costs no step. Where
+    /// nothing was ever sent to it there may be no list.
+    pub fn waiting_for(&self, command: u64) -> Option<&Queue>
+        ensures { unwrap_or (option_copied result) [] ≡ waiting_for self.now.messages command }
+    {
+        self.inboxes.get(command as usize)
+    }
+
     /// The numbers of the messages that wait on their way from one place to another, rising. It costs no step.
     pub fn waiting(&self, from: usize, to: usize) -> &Queue
         requires from { IsPlace self.now.aliases from }
@@ -125,7 +138,8 @@ impl Post {
 
     /// Sends a message, and gives its number. What it answers was sent before it. Want of memory changes nothing.
     ///
-    /// Beside the look for the two places it costs a few steps, now and then as many as there are messages, where room grows.
+    /// Beside the look for the two places it costs a few steps, now and then as many as there are messages, where room grows, and for the first answer to a
+    /// command those to the commands since the last one that was answered.
     pub fn send(&mut self, content: Content, now: u64) -> Result<u64, OutOfMemory>
         requires { answers_what_was_sent self.old.messages content ≡ true }
         ensures number { IfOk result (λ number. number ≡ length self.old.messages + 1) }
@@ -133,13 +147,16 @@ impl Post {
         ensures unanswered { OnOk result (answers_on self.new.messages (length self.new.messages) ≡ []) }
         ensures err { OnErr result (self.new ≡ self.old) }
     {
+        let to = receiver(&content);
         let at = direction_of(self.aliases.as_slice(), &content);
         let call = asked_by(&content);
         let message = sent_at(now, content);
         add(
             &mut self.messages,
+            &mut self.inboxes,
             &mut self.queues,
             &mut self.answers,
+            to,
             at,
             call,
             message,
@@ -152,7 +169,13 @@ impl Post {
     pub fn arrive(&mut self, number: u64, now: u64)
         ensures { self.new ≡ on_number self.old number (arrives now) }
     {
-        leave(&self.aliases, &self.messages, &mut self.queues, number); // it has come
+        leave(
+            &self.aliases,
+            &self.messages,
+            &mut self.inboxes,
+            &mut self.queues,
+            number, // it has come
+        );
         arrive_at(&mut self.messages, number, now);
     }
 
@@ -160,7 +183,13 @@ impl Post {
     pub fn lose(&mut self, number: u64)
         ensures { self.new ≡ on_number self.old number vanishes }
     {
-        leave(&self.aliases, &self.messages, &mut self.queues, number); // it never comes
+        leave(
+            &self.aliases,
+            &self.messages,
+            &mut self.inboxes,
+            &mut self.queues,
+            number, // it never comes
+        );
         lose_at(&mut self.messages, number);
     }
 
@@ -184,7 +213,13 @@ impl Post {
         ensures { self.new ≡ without_sent self.old }
     {
         let number = self.messages.len() as u64;
-        forget(&self.aliases, &self.messages, &mut self.queues, number);
+        forget(
+            &self.aliases,
+            &self.messages,
+            &mut self.inboxes,
+            &mut self.queues,
+            number,
+        );
         forget_answers(&self.messages, &mut self.answers, number);
         drop_last(&mut self.messages);
     }

@@ -1,3 +1,5 @@
+//! A queue of numbers in ascending order.
+
 ghost use Rattle.std.specs.Prelude.{◌≡◌, ◌<◌, ◌==◌, [], nat_eq, length, position, slice_get, OnOk, OnErr};
 ghost use Rattle.std.specs.List.{remove};
 ghost use Rattle.post.specs.Kept.{with_number, without_last, taken_out};
@@ -7,7 +9,7 @@ use std::alloc::Global;
 use std::collections::VecDeque;
 use std::marker::Model;
 
-/// The numbers of the messages that wait on one direction, rising.
+/// The numbers of the messages that wait on one direction or for one receiver, rising.
 #[derive(Drop)]
 pub struct Queue {
     numbers: VecDeque<u64>,

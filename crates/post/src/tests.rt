@@ -64,6 +64,13 @@ fn first(rt: &impl Abort, post: &Post, from: usize, to: usize) -> Option<u64> {
     post.first_waiting(from, to)
 }
 
+fn first_for(post: &Post, command: u64) -> Option<u64> {
+    match post.waiting_for(command) {
+        Some(queue) => queue.first(),
+        None => None,
+    }
+}
+
 fn arrived(post: &Post, number: u64) -> Option<u64> {
     match post.message(number) {
         Some(message) => message.arrived,
@@ -121,6 +128,20 @@ fn keeps_answers_by_call(rt: HostRuntime) -> Result<(), Fail> {
     assert!(rt; post.answers_to(1) == [2].as_slice());
     assert!(rt; post.answers_to(2).is_empty());
     assert_eq!(rt; first(&rt, &post, 1, 0), Some(2));
+    Ok(())
+}
+
+#[test]
+fn waits_for_its_command(rt: HostRuntime) -> Result<(), Fail> {
+    let tablets = two_tablets(&rt);
+    let mut post = Post::new(rt.alloc(), &tablets)?;
+    send(&rt, &mut post, status_of(&tablets[0].alias), 5)?;
+    send(&rt, &mut post, joined_by(&tablets[0].alias, 1), 6)?;
+    assert_eq!(rt; first_for(&post, 0), Some(1));
+    assert_eq!(rt; first_for(&post, 1), Some(2));
+    assert_eq!(rt; first_for(&post, 2), None);
+    post.arrive(2, 7);
+    assert_eq!(rt; first_for(&post, 1), None);
     Ok(())
 }
 

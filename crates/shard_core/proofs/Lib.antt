@@ -5,3 +5,11 @@ pub mod OpeningLemmas
 pub mod FoundLemmas
 pub mod NoteLemmas
 pub mod SpareLemmas
+pub mod KnownLemmas
+pub mod ActorLemmas
+pub mod CommandFitLemmas
+pub mod MatchLemmas
+pub mod BeginLemmas
+pub mod EndLemmas
+pub mod PendingLemmas
+pub mod DueLemmas

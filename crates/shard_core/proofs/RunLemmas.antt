@@ -14,6 +14,7 @@ use Rattle.shard_calls.specs.World.{Config, IsConfig, World, opening, numbered}
 use Rattle.shard_calls.specs.Table.{meets, answer, change, after, step_of, world_after, IsStep, IsRunFrom, IsRun}
 use Rattle.shard_state.specs.State.{Data, config_in, world_seen, seen}
 use Rattle.arrivals.specs.Addressed.{is_addressed, AreAddressed}
+use Rattle.shard_core.specs.Whole.{IsWhole}
 use Rattle.arrivals.specs.Arrivals.{next_offered}
 use Rattle.changes.specs.Few.{HaveFewWrites, IsFewContent, AreFew}
 use Rattle.changes.specs.Sound.{IsSoundContent, AreSound}
@@ -23,6 +24,7 @@ use Rattle.changes.proofs.PastLaws.{reads_no_past}
 use Rattle.changes.proofs.FewLaws.{few_after}
 use Rattle.changes.proofs.SoundLaws.{sound_after, fits_after}
 use Rattle.shard_core.specs.Kept.{Kept, kept_of, world_of}
+use Rattle.shard_core.proofs.DueLemmas.{open_of_actors}
 use Rattle.shard_core.specs.Leads.{Leads}
 
 -- ---- one more step
@@ -149,3 +151,16 @@ leads_on d v ss ts e reply h room met f more =
       fits = fits_after d v e reply f h.fits;
       room = omega (arith, size, room);
     }
+
+-- ---- what calls ask of the fields
+
+pub whole : (d : Data) (ss : List Step) → Leads d ss → IsWhole d
+whole d ss h = record {
+  group = h.fits.group;
+  known = h.fits.aliases;
+  addressed = addressed d h.sound;
+  owned = open_of_actors d ss h;
+  few = few_more (length ss) 1048576 (seen d) (omega (arith, h.room)) h.few;
+  sound = h.sound;
+  fits = h.fits;
+}

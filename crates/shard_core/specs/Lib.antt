@@ -6,3 +6,5 @@ pub mod Notes
 pub mod Spares
 pub mod Leads
 pub mod Stands
+pub mod Whole
+pub mod Pending

@@ -1,5 +1,8 @@
+//! Whether the condition of an event's row holds.
+
 ghost use Rattle.std.specs.Prelude.{◌≡◌, ◌&&◌, true, IsOk, IfOk};
 ghost use Rattle.shard_calls.specs.Table.{meets, row_number};
+ghost use Rattle.shard_calls.specs.declared.event.Event.TheVariants as events;
 ghost use Rattle.shard_state.specs.State.{seen, data_of, config_in, AreOfGroup};
 ghost use Rattle.changes.specs.Makes.{IsFound};
 ghost use Rattle.shard_core.specs.Causes.{is_told_at_once};
@@ -9,10 +12,28 @@ use arrivals::is_deliverable;
 use changes::Found;
 use shard_base::OutOfMemory;
 use shard_calls::Event;
+use shard_names::Alias;
 use shard_state::{
     Fields, is_declared, is_down, is_eligible_alias, is_in_time, is_link, may_record, may_send,
     may_tick, may_write, names_declared, open_of, term_of, took_nothing,
 };
+
+/// Whether the condition of the row Intend holds.
+fn may_be_intended(fields: &Fields, command: u64, alias: &Alias) -> bool
+    requires group { AreOfGroup (data_of fields.now) }
+    ensures { result ≡ meets (config_in (data_of fields.now)) (seen (data_of fields.now)) (events.Intend command alias.now) }
+{
+    term_of(&fields.commands, command).is_some() && is_eligible_alias(fields, alias)
+}
+
+/// Whether the condition of the row Record holds.
+fn may_be_recorded(fields: &Fields, command: u64, alias: &Alias) -> bool
+    requires group { AreOfGroup (data_of fields.now) }
+    ensures { result ≡ meets (config_in (data_of fields.now)) (seen (data_of fields.now)) (events.Record command alias.now) }
+{
+    let term = term_of(&fields.commands, command);
+    is_declared(&fields.managers, alias) && may_record(&fields.topo, alias, term)
+}
 
 /// Whether the condition of the event's row holds, where this was found of it, and whether that is told without memory.
 pub(crate) fn meets_at_once(fields: &Fields, event: &Event, found: &Found) -> bool
@@ -28,13 +49,8 @@ pub(crate) fn meets_at_once(fields: &Fields, event: &Event, found: &Found) -> bo
         }
         Event::Take { command } => took_nothing(&fields.commands, *command),
         Event::Read { command } => term_of(&fields.commands, *command).is_some(),
-        Event::Intend { command, alias } => {
-            term_of(&fields.commands, *command).is_some() && is_eligible_alias(fields, alias)
-        }
-        Event::Record { command, alias } => {
-            let term = term_of(&fields.commands, *command);
-            is_declared(&fields.managers, alias) && may_record(&fields.topo, alias, term)
-        }
+        Event::Intend { command, alias } => may_be_intended(fields, *command, alias),
+        Event::Record { command, alias } => may_be_recorded(fields, *command, alias),
         Event::Drain { command, alias } => {
             is_declared(&fields.managers, alias) && term_of(&fields.commands, *command).is_some()
         }

@@ -1,3 +1,5 @@
+//! A shard with the history of its steps, and what may be asked of it.
+
 ghost use Rattle.std.specs.Prelude.{◌≡◌, ◌<◌, ◌≤◌, ◌↔◌, ◌&&◌, ◌++◌, ◌∷◌, ◌+◌, ◌-◌, ◌^◌, [], ℕ, List, true, false, length, nat_lt, IsTrue, IfOk, IsOk, OnOk, OnErr, IsErrOf, IfSome, MatchOption, Some, None, vec_len, vec_capacity};
 ghost use Rattle.std.specs.Option.{option_copied, option_map};
 ghost use Rattle.shard_names.specs.Tablets.{AreTablets, tablet_of};
@@ -15,6 +17,7 @@ ghost use Rattle.shard_core.specs.Kept.{Makes, kept_of, world_of};
 ghost use Rattle.shard_core.specs.Leads.{Leads};
 ghost use Rattle.shard_core.specs.Notes.{AreInPlace};
 ghost use Rattle.shard_core.specs.Spares.{IsSpare};
+ghost use Rattle.shard_core.specs.Whole.{IsWhole};
 ghost use Rattle.shard_calls.specs.declared.event.Note.{Note as Noted};
 
 use crate::conditions::{meets, meets_at_once, row_number};
@@ -281,13 +284,14 @@ impl Shard {
         self.fields.commands.len() as u64
     }
 
-    /// What stands: the world to which the steps have led. It takes no memory.
+    /// What stands: the world to which the steps have led, with all that `arrivals`, `changes` and `planned` ask of fields. It takes no memory.
     pub fn fields(&self) -> &Fields
         ensures config { config_in (data_of result.now) ≡ self.now.config }
         ensures world { world_seen (data_of result.now) self.now.steps ≡ world_of self.now }
         ensures tablets { AreTablets self.now.config.tablets }
         ensures begins { IsTrue (nat_lt self.now.config.moment 253370764800000) }
         ensures group { AreOfGroup (data_of result.now) }
+        ensures whole { IsWhole (data_of result.now) }
         ensures run { IsRun self.now.config self.now.steps }
     {
         &self.fields

@@ -22,7 +22,7 @@ use Rattle.arrivals.specs.Arrivals.{next_due, next_offered}
 use Rattle.planned.specs.Course.{next}
 use Rattle.planned.specs.Follows.{maker_of}
 use Rattle.planned.specs.Leaving.{or_else}
-use Rattle.planned.specs.Pending.{FreeMayBegin}
+use Rattle.shard_core.specs.Pending.{FreeMayBegin}
 use Rattle.vtctld_text.specs.declared.note.RefusedAction.{RefusedAction}
 use Rattle.vtctld_text.specs.declared.note.RefusedAction.TheVariants as refusals
 use Rattle.shard_top.specs.declared.player.Task.{Task}

@@ -11,7 +11,7 @@ use Rattle.shard_script.specs.declared.script.Action.{Action}
 use Rattle.shard_script.specs.Names.{started, started_by}
 use Rattle.shard_top.specs.Programs.{asks_for, asked_of, begun_by}
 use Rattle.planned.specs.Course.{leaves}
-use Rattle.planned.specs.Pending.{FreeMayBegin}
+use Rattle.shard_core.specs.Pending.{FreeMayBegin}
 use Rattle.planned.proofs.FollowLemmas.{leaving_is_own}
 use Rattle.shard_top.specs.declared.player.Task.{Task}
 use Rattle.shard_top.specs.declared.player.Player.{Player}

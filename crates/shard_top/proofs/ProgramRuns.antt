@@ -19,9 +19,9 @@ use Rattle.shard_script.specs.Names.{started, started_by, NamesDiffer}
 use Rattle.script_commands.specs.Words.{IsName}
 use Rattle.shard_script.specs.Script.{Fits, IsInTime}
 use Rattle.shard_script.proofs.DeclaredLemmas.{found}
-use Rattle.planned.specs.Pending.{FreeMayBegin}
+use Rattle.shard_core.specs.Pending.{FreeMayBegin}
 use Rattle.shard_calls.specs.declared.state.CommandState.{CommandState}
-use Rattle.planned.proofs.PendingLemmas.{actors_fit_always}
+use Rattle.shard_core.proofs.PendingLemmas.{actors_fit_always}
 use Rattle.vtctld_text.specs.declared.note.RefusedAction.{RefusedAction}
 use Rattle.shard_top.specs.declared.player.Player.{Player}
 use Rattle.shard_top.specs.declared.player.Move.{Move}

@@ -1,4 +1,4 @@
-use Rattle.planned.proofs.PendingLemmas as pending
+use Rattle.shard_core.proofs.PendingLemmas as pending
 use Rattle.planned.proofs.laws.actors_fit.Goals as goal
 
 pub returns : goal.returns

@@ -7,6 +7,7 @@ use Rattle.shard_names.specs.declared.alias.Alias.{Alias}
 use Rattle.post.specs.Posted.{Posted, answers_what_was_sent}
 use Rattle.post.specs.Kept.{direction_of}
 use Rattle.post.proofs.KeptLemmas.{kept_sent}
+use Rattle.post.proofs.WayLemmas.{way_sent}
 use Rattle.post.proofs.messages.Post.send.Goals as goal
 
 pub invariant_of-self : goal.invariant_of-self
@@ -17,9 +18,13 @@ invariant_of-self c =
     c.direction_of-at.ensures.number ∙ ap (λ (xs : List Alias). direction_of xs c.args.content) c.as_slice.ensures.value in
     let new = rw c.sent_at-message.ensures at c.add.ensures.ok_messages in
     let after = rw at at c.add.ensures.ok_queues in
-    let more = rw c.asked_by-call.ensures at c.add.ensures.ok_answers in
-    kept_sent c.add.result a.aliases.items a.messages.items c.add.new.messages.items a.queues.items c.add.new.queues.items a.answers.items c.add.new.answers.items c.args.content c.args.now
-    sent new after more c.add.ensures.err_messages c.add.ensures.err_queues c.add.ensures.err_answers c.self.invariant
+    let boxes = rw c.receiver-to.ensures at c.add.ensures.ok_inboxes in
+    let more = rw c.asked_by-call.ensures at c.add.ensures.ok_answers in (
+      kept_sent c.add.result a.aliases.items a.messages.items c.add.new.messages.items a.queues.items c.add.new.queues.items a.answers.items c.add.new.answers.items c.args.content c.args.now
+          sent new after more c.add.ensures.err_messages c.add.ensures.err_queues c.add.ensures.err_answers c.self.invariant.0,
+      way_sent c.add.result a.messages.items c.add.new.messages.items a.inboxes.items c.add.new.inboxes.items c.args.content c.args.now
+          new boxes c.add.ensures.err_messages c.add.ensures.err_inboxes c.self.invariant.1,
+    )
 
 pub returns-clause-unanswered : goal.returns-clause-unanswered
 returns-clause-unanswered c =
@@ -29,5 +34,5 @@ returns-clause-unanswered c =
     (λ new.
     let one = rw c.sent_at-message.ensures at new in
     subst (λ (ms : List Message). answers_on ms (length ms) ≡ []) (sym one)
-    (none_answers a.aliases.items a.messages.items a.queues.items a.answers.items c.args.content c.args.now c.self.invariant sent))
+    (none_answers a.aliases.items a.messages.items a.queues.items a.answers.items c.args.content c.args.now c.self.invariant.0 sent))
     c.add.ensures.ok_messages

@@ -14,13 +14,13 @@ use Rattle.shard_calls.specs.Messages.{why_given_up, offer_to}
 use Rattle.shard_calls.specs.Writes.{tell_of, told_act}
 use Rattle.shard_calls.specs.Table.{Met, after, world_after, IsRunFrom}
 use Rattle.shard_names.proofs.TabletLemmas.{both, both_left}
-use Rattle.planned.proofs.KnownLemmas.{open_numbered}
-use Rattle.planned.specs.Pending.{PendingIsOpen, OpenIsPending, FreeMayBegin, EndedMayBegin, ActorsFitAlways}
-use Rattle.planned.proofs.ActorLemmas.{at_place}
-use Rattle.planned.proofs.CommandFitLemmas.{delivery_alone, up_alone, offer_alone, local_alone}
-use Rattle.planned.proofs.MatchLemmas.{Match, take_match, read_match, intend_match, record_match, drain_match, release_match, act_match, write_match, tell_match, alone_match}
-use Rattle.planned.proofs.BeginLemmas.{same_actor, pends, begin_match}
-use Rattle.planned.proofs.EndLemmas.{open_runs, same_state, ends_match}
+use Rattle.shard_core.proofs.KnownLemmas.{open_numbered}
+use Rattle.shard_core.specs.Pending.{PendingIsOpen, OpenIsPending, FreeMayBegin, EndedMayBegin, ActorsFitAlways}
+use Rattle.shard_core.proofs.ActorLemmas.{at_place}
+use Rattle.shard_core.proofs.CommandFitLemmas.{delivery_alone, up_alone, offer_alone, local_alone}
+use Rattle.shard_core.proofs.MatchLemmas.{Match, take_match, read_match, intend_match, record_match, drain_match, release_match, act_match, write_match, tell_match, alone_match}
+use Rattle.shard_core.proofs.BeginLemmas.{same_actor, pends, begin_match}
+use Rattle.shard_core.proofs.EndLemmas.{open_runs, same_state, ends_match}
 
 -- ---- any row
 

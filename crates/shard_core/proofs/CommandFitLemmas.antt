@@ -40,7 +40,7 @@ use Rattle.shard_calls.specs.Deliveries.{if_declared, asked, fed, feed_verdict, 
 use Rattle.shard_calls.specs.Writes.{with_written, write_verdict, writes_at, writes_in, told_act, with_told, tell_of}
 use Rattle.shard_calls.specs.Table.{Met, after}
 use Rattle.shard_calls.proofs.ListLemmas.{numbered-push_cases, changed_at_cases, any-push_cases}
-use Rattle.planned.proofs.KnownLemmas.{writes_it, CommandFits}
+use Rattle.shard_core.proofs.KnownLemmas.{writes_it, CommandFits}
 
 abbrev AllFit : List CommandState → Type 0
 AllFit xs = (c : ℕ) (s : CommandState) → numbered xs c ≡ Some s → CommandFits s

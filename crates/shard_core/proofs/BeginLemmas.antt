@@ -9,8 +9,8 @@ use Rattle.shard_calls.specs.declared.state.CommandState.{CommandState}
 use Rattle.shard_calls.specs.World.{World, idle_actor, changed, numbered, place_of, open_at, open_of}
 use Rattle.shard_calls.specs.Begins.{opens, client_at, client_of, joined_at, with_actor, begun_state}
 use Rattle.shard_calls.proofs.ListLemmas.{slice_get-append, slice_get-push_cases, at_end, numbered-push_cases, changed_cases}
-use Rattle.planned.proofs.ActorLemmas.{changed_other, changed_here, numbered-append, numbered_end, numbered_within, place_changed, place_append, place_new, at_place}
-use Rattle.planned.proofs.MatchLemmas.{Match}
+use Rattle.shard_core.proofs.ActorLemmas.{changed_other, changed_here, numbered-append, numbered_end, numbered_within, place_changed, place_append, place_new, at_place}
+use Rattle.shard_core.proofs.MatchLemmas.{Match}
 
 -- the actors with this one among them, at place k
 record Joined (actors xs : List ActorState) (name : List ℕ) (k : ℕ) : Type 0 where

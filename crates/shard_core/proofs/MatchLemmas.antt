@@ -19,8 +19,8 @@ use Rattle.shard_calls.specs.Locks.{with_taken, takes_by, by_term, read_act, rea
 use Rattle.shard_calls.specs.Deliveries.{if_declared}
 use Rattle.shard_calls.specs.Writes.{with_written, write_verdict, writes_at, writes_in, with_told}
 use Rattle.shard_calls.proofs.ListLemmas.{changed_at_cases}
-use Rattle.planned.proofs.CommandFitLemmas.{LeavesAlone}
-use Rattle.planned.proofs.ActorLemmas.{changed_at_other, changed_at_here}
+use Rattle.shard_core.proofs.CommandFitLemmas.{LeavesAlone}
+use Rattle.shard_core.proofs.ActorLemmas.{changed_at_other, changed_at_here}
 
 -- what is kept of actors and commands, step by step
 pub record Match (actors : List ActorState) (commands : List CommandState) : Type 0 where

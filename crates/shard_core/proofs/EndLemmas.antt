@@ -7,10 +7,10 @@ use Rattle.shard_calls.specs.declared.state.CommandState.{CommandState}
 use Rattle.shard_calls.specs.World.{World, changed, changed_at, numbered, place_of, if_open, open_command}
 use Rattle.shard_calls.specs.Begins.{closes, ends_by}
 use Rattle.shard_calls.proofs.ListLemmas.{changed_cases, changed_at_cases}
-use Rattle.planned.proofs.KnownLemmas.{open_numbered}
-use Rattle.planned.proofs.ActorLemmas.{changed_other, changed_at_other, changed_own, own_change, place_changed}
-use Rattle.planned.proofs.MatchLemmas.{Match}
-use Rattle.planned.proofs.BeginLemmas.{same_actor}
+use Rattle.shard_core.proofs.KnownLemmas.{open_numbered}
+use Rattle.shard_core.proofs.ActorLemmas.{changed_other, changed_at_other, changed_own, own_change, place_changed}
+use Rattle.shard_core.proofs.MatchLemmas.{Match}
+use Rattle.shard_core.proofs.BeginLemmas.{same_actor}
 
 abbrev as_ended : CommandState → CommandState
 as_ended s = record s { ended = true }
