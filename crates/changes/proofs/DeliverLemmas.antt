@@ -25,7 +25,8 @@ use Rattle.post.specs.Posted.{Posted, sent_at, with_sent, without_sent, answers_
 use Rattle.tablet_manager.specs.Managed.{Managed, ackers_of}
 use Rattle.shard_state.specs.State.{groups_in}
 use Rattle.changes.specs.Sound.{IsSoundContent, AreSound}
-use Rattle.changes.specs.Places.{IsAt, AreOf, KnowAlias}
+use Rattle.shard_state.specs.Managers.{IsAt}
+use Rattle.changes.specs.Places.{AreOf, KnowAlias}
 use Rattle.changes.specs.Makes.{Carries}
 
 -- ---- lists of messages

@@ -1,5 +1,5 @@
--- Where a tablet stands among the managers, and what it is to change one of them.
-use Rattle.std.specs.Prelude.{◌≡◌, ◌≢◌, ℕ, zero, suc, ◌-◌, true, List, [], ◌∷◌, Some, length, take, ⊤}
+-- What it is to change one of the managers.
+use Rattle.std.specs.Prelude.{◌≡◌, ℕ, ◌-◌, true, List, Some, length, take}
 use Rattle.std.specs.List.{AllByRecursion}
 use Rattle.shard_names.specs.declared.alias.Alias.{Alias}
 use Rattle.shard_names.specs.declared.tablet.Tablet.{Tablet}
@@ -10,17 +10,6 @@ use Rattle.shard_calls.specs.Tablets.{TabletState}
 use Rattle.shard_calls.specs.World.{at_tablet}
 use Rattle.tablet_manager.specs.Managed.{Managed}
 use Rattle.shard_state.specs.State.{tablets_of, groups_in, state_at}
-
--- the alias stands at this place, and at none before it
-abbrev pub IsAt : List Managed → Alias → ℕ → Type 0
-IsAt [] a k = ⊥
-IsAt (m ∷ ms) a zero = m.me.alias ≡ a
-IsAt (m ∷ ms) a (suc k) = (m.me.alias ≢ a) × IsAt ms a k
-
--- it stands nowhere
-abbrev pub IsNowhere : List Managed → Alias → Type 0
-IsNowhere [] a = ⊤
-IsNowhere (m ∷ ms) a = (m.me.alias ≢ a) × IsNowhere ms a
 
 -- each tablet knows this of its shard
 abbrev pub AreOf : Group → List Managed → Type 0

@@ -1,3 +1,5 @@
+//! What a command is noted to have done: its acts, the term that it took, and what it read.
+
 ghost use Rattle.std.specs.Prelude.{◌≡◌, ◌<◌, ◌≤◌, ◌+◌, ◌-◌, ◌^◌, ◌∷◌, ◌++◌, [], true, length, MatchOption, OnOk, OnErr, IfOk, Some, None};
 ghost use Rattle.shard_calls.specs.World.{numbered, changed, changed_at, with_act};
 ghost use Rattle.shard_calls.specs.Locks.{as_released, with_act_if, with_taken};

@@ -1,3 +1,5 @@
+//! How a command begins: its number, its actor, and what it finds at its start.
+
 ghost use Rattle.std.specs.Prelude.{◌≡◌, ◌<◌, ◌≤◌, ◌+◌, ◌-◌, ◌^◌, ◌∷◌, ◌++◌, [], true, length, OnOk, OnErr, IfOk, IfSome, vec_len, vec_capacity};
 ghost use Rattle.shard_calls.specs.Locks.{seen_of};
 ghost use Rattle.shard_calls.specs.Begins.{begun_state, client_of, names_declared, number_of, shown_by, with_actor};

@@ -1,3 +1,5 @@
+//! What goes out: calls to tablets, entries to replicas, and what a client is told.
+
 ghost use Rattle.std.specs.Prelude.{◌≡◌, true, OnErr, IfOk};
 ghost use Rattle.shard_calls.specs.Messages.{offer_to};
 ghost use Rattle.shard_calls.specs.Deliveries.{call_of};

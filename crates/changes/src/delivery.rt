@@ -1,3 +1,5 @@
+//! What a message changes where it arrives: a call, an answer, an entry or an acknowledgement.
+
 ghost use Rattle.std.specs.Prelude.{◌≡◌, ◌<◌, ◌≤◌, ◌-◌, ◌^◌, ℕ, List, true, false, length, OnOk, OnErr, IfOk, Some};
 ghost use Rattle.shard_names.specs.Tablets.{alias_eq, is_declared, tablet_of};
 ghost use Rattle.shard_names.specs.declared.tablet.Tablet.{Tablet};
@@ -17,12 +19,11 @@ ghost use Rattle.changes.specs.Makes.{Makes, Carries, CarriesAnswer};
 ghost use Rattle.changes.specs.Places.{AreOf, Becomes, Changes, KnowAlias};
 
 use crate::calls::copy_call;
-use crate::tablets::find_manager;
 use gtid_sets::Entry;
 use shard_base::OutOfMemory;
 use shard_calls::{Accepted, Answer, Call, Content, Reply, Settled};
 use shard_names::Alias;
-use shard_state::Fields;
+use shard_state::{Fields, find_manager};
 use tablet_manager::Manager;
 
 /// What the tablet makes of a call.

@@ -1,3 +1,5 @@
+//! The shard lock and what the topology server is asked: take, read, intend, record, drain, release, lapse.
+
 ghost use Rattle.std.specs.Prelude.{◌≡◌, ◌<◌, ◌-◌, ◌^◌, true, Err, OnOk, OnErr, IfOk};
 ghost use Rattle.std.specs.Option.{option_copied};
 ghost use Rattle.topo_lock.specs.Topology.{is_held_in, intent_of, answer_take, answer_intend, after_release};

@@ -1,3 +1,5 @@
+//! Links that are cut and mended.
+
 ghost use Rattle.std.specs.Prelude.{◌≡◌, ◌∷◌, ◌++◌, [], true, filter, not, OnOk, OnErr, IfOk, Some};
 ghost use Rattle.std.specs.List.{list_any};
 ghost use Rattle.shard_calls.specs.Messages.{side_eq, link_eq, is_cut, with_cut, without_cut, why_given_up};

@@ -1,5 +1,7 @@
-ghost use Rattle.std.specs.Prelude.{◌≡◌, ◌<◌, ◌≤◌, ℕ, List, true, false, length, position, MatchOption, OnOk, OnErr, IfOk, IfSome, Some};
-ghost use Rattle.shard_names.specs.Tablets.{alias_eq, tablet_of, is_declared};
+//! What becomes of one tablet that is found by its alias.
+
+ghost use Rattle.std.specs.Prelude.{◌≡◌, ◌≤◌, ℕ, List, true, false, length, OnOk, OnErr, IfOk, IfSome, Some};
+ghost use Rattle.shard_names.specs.Tablets.{tablet_of, is_declared};
 ghost use Rattle.shard_names.specs.declared.tablet.Tablet.{Tablet};
 ghost use Rattle.gtid_sets.specs.Logs.{greatest_number, next_gtid};
 ghost use Rattle.shard_calls.specs.Stands.{is_down, primary_term};
@@ -8,28 +10,14 @@ ghost use Rattle.shard_calls.specs.Tablets.{after_crash, restarts, writes_local,
 ghost use Rattle.shard_calls.specs.Writes.{written_reply};
 ghost use Rattle.tablet_manager.specs.Managed.{state_of, SameTablet};
 ghost use Rattle.shard_state.specs.State.{state_at, tablets_of};
-ghost use Rattle.changes.specs.Places.{IsAt, IsNowhere, Changes, Becomes};
+ghost use Rattle.changes.specs.Places.{Changes, Becomes};
 
 use gtid_sets::Gtid;
 use shard_base::OutOfMemory;
 use shard_calls::{Reply, Shown, Stand, Written};
 use shard_names::Alias;
+use shard_state::find_manager;
 use tablet_manager::Manager;
-
-fn place_at(managers: &[Manager], alias: &Alias) -> Option<usize>
-    ensures { result ≡ position (λ m. alias_eq m.me.alias alias.now) managers.now }
-{
-    managers
-        .iter()
-        .position(|manager| manager.me().alias == *alias)
-}
-
-/// The place of the tablet with this alias.
-pub(crate) fn find_manager(managers: &[Manager], alias: &Alias) -> Option<usize>
-    ensures { MatchOption result (IsNowhere managers.now alias.now) (λ k. (k < length managers.now) × IsAt managers.now alias.now k) }
-{
-    place_at(managers, alias)
-}
 
 /// The tablet goes down. It takes no memory.
 pub(crate) fn crash_at(managers: &mut Vec<Manager>, alias: &Alias)

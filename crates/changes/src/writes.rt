@@ -1,3 +1,5 @@
+//! What a client's write changes, a write at a tablet itself, a crash and a restart.
+
 ghost use Rattle.std.specs.Prelude.{◌≡◌, ◌<◌, ◌≤◌, ◌+◌, ◌-◌, ◌^◌, ℕ, List, true, length, Err, Ok, OnOk, OnErr, IfOk, Some};
 ghost use Rattle.shard_names.specs.Tablets.{is_declared};
 ghost use Rattle.gtid_sets.specs.Logs.{greatest_number};

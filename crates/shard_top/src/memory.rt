@@ -1,3 +1,5 @@
+//! A source and a sink in memory, which fail at the calls that they are told to.
+
 ghost use Rattle.std.specs.Prelude.{◌≡◌, ◌≤◌, ◌<◌, ◌-◌, ◌+◌, ◌^◌, ◌↔◌, Contains, ◌⊎◌, min, [], length, IsTrue, IsErr, IfOk, OnErr, Some};
 ghost use Rattle.std.specs.Io.{ReadsAtMost, WritesAtMost};
 ghost use Rattle.std.specs.Io.KnownBytes.{ReadConsumes, WriteAppends};

@@ -1,3 +1,5 @@
+//! What a player does next: an event, the note of a refused line, or nothing.
+
 ghost use Rattle.std.specs.Prelude.{◌≡◌, ◌<◌, ◌≤◌, ◌-◌, ◌^◌, true, drop, length, IfOk, IfErr};
 ghost use Rattle.shard_calls.specs.World.{open_of, open_command};
 ghost use Rattle.shard_calls.specs.Table.{meets};

@@ -1,3 +1,5 @@
+//! A script played to its end: one turn after the other, and how a command leaves for which there is no memory.
+
 ghost use Rattle.std.specs.Prelude.{◌≡◌, ◌≤◌, ◌<◌, [], ◌∷◌, ◌++◌, length, List, ℕ, true, nat_le, is_some, IfOk, IfErr, OnOk, OnErr, IsOk, IsErrOf, Option, Some, None};
 ghost use Rattle.shard_calls.specs.World.{open_command};
 ghost use Rattle.shard_core.specs.Room.{has_room_kept};

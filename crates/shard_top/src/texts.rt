@@ -1,3 +1,5 @@
+//! The lines that are printed of a stop and of a rehearsal, and the exit status.
+
 ghost use Rattle.std.specs.Prelude.{◌≡◌, ◌<◌, ◌⊎◌, ◌++◌, IfOk, OnOk};
 ghost use Rattle.std.specs.Fmt.{decimal};
 ghost use Rattle.vtctld_text.specs.Summary.{summary_text};

@@ -1,3 +1,5 @@
+//! The top calls: words and a source of text in, bytes and a status out.
+
 ghost use Rattle.std.specs.Prelude.{◌≡◌, ◌≢◌, ◌≤◌, ◌<◌, ◌++◌, [], List, ℕ, false, true, map, IsOkAnd, IsSome, MatchResult, length};
 ghost use Rattle.std.specs.Io.KnownBytes.{Appends, IsAtEnd};
 ghost use Rattle.shard_base.specs.Faults.{Rose, Calm};

@@ -2,13 +2,31 @@
 
 ghost use Rattle.std.specs.Prelude.{◌≡◌, ◌++◌, filter, IfOk, OnOk};
 ghost use Rattle.std.specs.List.{flat_map};
+ghost use Rattle.shard_calls.specs.declared.answer.Answer.TheVariants as says;
 ghost use Rattle.shard_calls.specs.Causes.{is_call, calls_of};
 ghost use Rattle.spans.specs.Copies.{call_in};
 
 use crate::calls::is_call;
+use gtid_sets::GtidSet;
 use shard_base::{Items, OutOfMemory};
 use shard_calls::{Answer, Asked, Deed, Kind, Outcome, Stand, Why};
 use std::alloc::Global;
+
+/// The answer that a tablet lacks these.
+fn copy_missing(missing: &GtidSet) -> Result<Answer, OutOfMemory>
+    ensures { IfOk result (λ copy. copy ≡ says.NotCaughtUp missing.now) }
+{
+    let missing = missing.copy()?;
+    Ok(Answer::NotCaughtUp { missing })
+}
+
+/// The answer that a tablet has these, which its source has not.
+fn copy_extra(extra: &GtidSet) -> Result<Answer, OutOfMemory>
+    ensures { IfOk result (λ copy. copy ≡ says.Errant extra.now) }
+{
+    let extra = extra.copy()?;
+    Ok(Answer::Errant { extra })
+}
 
 fn copy_answer(answer: &Answer) -> Result<Answer, OutOfMemory>
     ensures { IfOk result (λ copy. copy ≡ answer.now) }
@@ -48,12 +66,8 @@ fn copy_answer(answer: &Answer) -> Result<Answer, OutOfMemory>
         Answer::PromisedAhead { promised } => Ok(Answer::PromisedAhead {
             promised: *promised,
         }),
-        Answer::NotCaughtUp { missing } => Ok(Answer::NotCaughtUp {
-            missing: missing.copy()?,
-        }),
-        Answer::Errant { extra } => Ok(Answer::Errant {
-            extra: extra.copy()?,
-        }),
+        Answer::NotCaughtUp { missing } => copy_missing(missing),
+        Answer::Errant { extra } => copy_extra(extra),
         Answer::NotStanding { newest } => Ok(Answer::NotStanding { newest: *newest }),
     }
 }

@@ -1,6 +1,7 @@
 use Rattle.std.proofs.lemmas.Result.{on_ok_weaker}
 use Rattle.shard_calls.specs.Tablets.{TabletState, accepts}
-use Rattle.changes.proofs.PlaceLemmas.{nothing_declared, changes_here}
+use Rattle.shard_state.proofs.PlaceLemmas.{nothing_declared}
+use Rattle.changes.proofs.PlaceLemmas.{changes_here}
 use Rattle.changes.proofs.delivery.accept_at.Goals as goal
 
 pub unreachable-requires : goal.unreachable-requires

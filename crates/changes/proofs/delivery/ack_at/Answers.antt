@@ -1,5 +1,6 @@
 use Rattle.shard_calls.specs.Tablets.{TabletState, after_ack}
-use Rattle.changes.proofs.PlaceLemmas.{nothing_declared, changes_here}
+use Rattle.shard_state.proofs.PlaceLemmas.{nothing_declared}
+use Rattle.changes.proofs.PlaceLemmas.{changes_here}
 use Rattle.changes.proofs.DeliverLemmas.{acker_here}
 use Rattle.changes.proofs.delivery.ack_at.Goals as goal
 

@@ -6,7 +6,8 @@ use Rattle.shard_calls.specs.Stands.{is_down}
 use Rattle.shard_calls.specs.Tablets.{TabletState, after_call, answer_to}
 use Rattle.tablet_manager.specs.Managed.{Managed, state_of}
 use Rattle.changes.specs.Sound.{FitsCall}
-use Rattle.changes.proofs.PlaceLemmas.{nothing_declared, few_here, becomes_here, said_here, state_is}
+use Rattle.shard_state.proofs.PlaceLemmas.{nothing_declared}
+use Rattle.changes.proofs.PlaceLemmas.{few_here, becomes_here, said_here, state_is}
 use Rattle.changes.proofs.DeliverLemmas.{alias_here, group_here}
 use Rattle.changes.proofs.delivery.run_at.Goals as goal
 

@@ -2,7 +2,8 @@ use Rattle.std.proofs.Common.{ap, ◌∙◌}
 use Rattle.shard_calls.specs.declared.stand.Stand.{Stand}
 use Rattle.shard_calls.specs.Stands.{takes_from}
 use Rattle.shard_calls.specs.Tablets.{TabletState}
-use Rattle.changes.proofs.PlaceLemmas.{nothing_declared, state_is}
+use Rattle.shard_state.proofs.PlaceLemmas.{nothing_declared}
+use Rattle.changes.proofs.PlaceLemmas.{state_is}
 use Rattle.changes.proofs.delivery.takes_at.Goals as goal
 
 pub unreachable-requires : goal.unreachable-requires

@@ -1,7 +1,8 @@
 use Rattle.std.proofs.Common.{ap, ◌∙◌, length}
 use Rattle.shard_calls.specs.Tablets.{TabletState}
 use Rattle.tablet_manager.specs.LogState.{LogState}
-use Rattle.changes.proofs.PlaceLemmas.{nothing_declared, state_is}
+use Rattle.shard_state.proofs.PlaceLemmas.{nothing_declared}
+use Rattle.changes.proofs.PlaceLemmas.{state_is}
 use Rattle.changes.proofs.tablets.count_at.Goals as goal
 
 pub unreachable-requires : goal.unreachable-requires

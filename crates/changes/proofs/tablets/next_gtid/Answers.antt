@@ -1,6 +1,7 @@
 use Rattle.std.proofs.Common.{◌+◌, arith}
 use Rattle.gtid_sets.specs.Logs.{next_gtid}
-use Rattle.changes.proofs.PlaceLemmas.{nothing_declared, few_here, said_here}
+use Rattle.shard_state.proofs.PlaceLemmas.{nothing_declared}
+use Rattle.changes.proofs.PlaceLemmas.{few_here, said_here}
 use Rattle.changes.proofs.tablets.next_gtid.Goals as goal
 
 pub overflow_add-result : goal.overflow_add-result

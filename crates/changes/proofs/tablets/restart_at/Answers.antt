@@ -1,5 +1,6 @@
 use Rattle.shard_calls.specs.Tablets.{TabletState, restarts}
-use Rattle.changes.proofs.PlaceLemmas.{changes_here, nothing_declared}
+use Rattle.shard_state.proofs.PlaceLemmas.{nothing_declared}
+use Rattle.changes.proofs.PlaceLemmas.{changes_here}
 use Rattle.changes.proofs.tablets.restart_at.Goals as goal
 
 pub unreachable-requires : goal.unreachable-requires

@@ -1,6 +1,7 @@
 use Rattle.std.proofs.Common.{ap, ◌∙◌}
 use Rattle.shard_calls.specs.Tablets.{TabletState}
-use Rattle.changes.proofs.PlaceLemmas.{nothing_declared, state_is}
+use Rattle.shard_state.proofs.PlaceLemmas.{nothing_declared}
+use Rattle.changes.proofs.PlaceLemmas.{state_is}
 use Rattle.changes.proofs.tablets.stand_at.Goals as goal
 
 pub unreachable-requires : goal.unreachable-requires

@@ -1,6 +1,7 @@
 use Rattle.std.proofs.lemmas.Result.{on_ok_weaker, IfOk-weaker}
 use Rattle.shard_calls.specs.Tablets.{writes}
-use Rattle.changes.proofs.PlaceLemmas.{nothing_declared, few_here, becomes_here, said_here}
+use Rattle.shard_state.proofs.PlaceLemmas.{nothing_declared}
+use Rattle.changes.proofs.PlaceLemmas.{few_here, becomes_here, said_here}
 use Rattle.changes.proofs.tablets.write_at.Goals as goal
 
 pub write-requires : goal.write-requires

@@ -1,7 +1,8 @@
 use Rattle.std.proofs.Common.{ap, ◌∙◌}
 use Rattle.shard_calls.specs.Tablets.{writes_local}
 use Rattle.shard_calls.specs.Writes.{written_reply}
-use Rattle.changes.proofs.PlaceLemmas.{nothing_declared, few_here, becomes_here, said_here}
+use Rattle.shard_state.proofs.PlaceLemmas.{nothing_declared}
+use Rattle.changes.proofs.PlaceLemmas.{few_here, becomes_here, said_here}
 use Rattle.changes.proofs.tablets.write_local_at.Goals as goal
 
 pub local_write-requires : goal.local_write-requires
