@@ -73,7 +73,7 @@ pub record IsAnswered (config : Config) (ss : List Step) (j c : ℕ) (x : Asked)
 
 -- ---- the act of a deed
 
-sent_of : (post : List Message) (u : ℕ) (act : Act) (x : Asked) → deed_of post u act ≡ Some (deeds.Asked x) → (k : ℕ) × (act ≡ acts.Sent k)
+pub sent_of : (post : List Message) (u : ℕ) (act : Act) (x : Asked) → deed_of post u act ≡ Some (deeds.Asked x) → (k : ℕ) × (act ≡ acts.Sent k)
 sent_of post u (acts.Took reply) x h = absurd (let wrong : Some (deeds.Took reply) ≡ Some (deeds.Asked x) = h in cc)
 sent_of post u (acts.Read reply) x h = absurd (let wrong : Some (deeds.Read reply) ≡ Some (deeds.Asked x) = h in cc)
 sent_of post u (acts.Intended b reply) x h = absurd (let wrong : Some (deeds.Intended b reply) ≡ Some (deeds.Asked x) = h in cc)
@@ -121,14 +121,14 @@ did post u (act ∷ done) n x h = of_deed (deed_of post u act) n refl h (λ k at
 
 -- ---- the call in the post
 
-record PostedCall (post : List Message) (x : Asked) : Type 0 where
-  message : Message
-  command : ℕ
-  call : Call
-  at : numbered post x.message ≡ Some message
-  carries : message.content ≡ contents.Asks command x.term x.alias call
-  kind : kind_of call ≡ x.kind
-  outcome : outcome_of post message ≡ x.outcome
+pub record PostedCall (post : List Message) (x : Asked) : Type 0 where
+  pub message : Message
+  pub command : ℕ
+  pub call : Call
+  pub at : numbered post x.message ≡ Some message
+  pub carries : message.content ≡ contents.Asks command x.term x.alias call
+  pub kind : kind_of call ≡ x.kind
+  pub outcome : outcome_of post message ≡ x.outcome
 
 of_content : (post : List Message) (k : ℕ) (m : Message) (content : Content) (x : Asked) → numbered post k ≡ Some m → m.content ≡ content
     → deed_if_asked (asked_by post k m content) ≡ Some (deeds.Asked x) → PostedCall post x
@@ -149,7 +149,7 @@ message_of post k m (contents.Answers command asked from answer) x h = absurd (l
 message_of post k m (contents.Feeds from to term before index e) x h = absurd (let none : None ≡ Some (deeds.Asked x) = h in cc)
 message_of post k m (contents.Acks from to term index) x h = absurd (let none : None ≡ Some (deeds.Asked x) = h in cc)
 
-posted_call : (post : List Message) (k : ℕ) (x : Asked) (o : Option Message) → numbered post k ≡ o
+pub posted_call : (post : List Message) (k : ℕ) (x : Asked) (o : Option Message) → numbered post k ≡ o
     → deed_if_asked (o >>= (λ m. asked_by post k m m.content)) ≡ Some (deeds.Asked x) → PostedCall post x × (k ≡ x.message)
 posted_call post k x None at h = absurd (let none : None ≡ Some (deeds.Asked x) = h in cc)
 posted_call post k x (Some m) at h = (of_content post k m m.content x at refl h, message_of post k m m.content x h)
@@ -176,7 +176,7 @@ sent_act k (acts.Sent n) h = (ap (λ (x : ℕ). acts.Sent x) (let same : n ≡ k
 sent_act k (acts.Wrote b reply) h = absurd (false≢true h)
 sent_act k (acts.Told committed) h = absurd (false≢true h)
 
-by_send : (c k : ℕ) (e : Event) (r : Reply) (act : Act) → DoneBy c e r act → act ≡ acts.Sent k
+pub by_send : (c k : ℕ) (e : Event) (r : Reply) (act : Act) → DoneBy c e r act → act ≡ acts.Sent k
     → (a : Alias) × (call : Call) × (e ≡ events.Send c a call) × (r ≡ replies.Message k)
 by_send c k _ _ _ (ByRead seen) is = absurd (let wrong : acts.Read (Ok seen) ≡ acts.Sent k = is in cc)
 by_send c k _ _ _ (ByRecord b) is = absurd (let wrong : acts.Recorded b (Ok tt) ≡ acts.Sent k = is in cc)
@@ -237,10 +237,10 @@ send_posts config ss i c k a call run here =
           (subst (λ (n : ℕ). IsPosted (after config w (events.Send c a call)).post n content) (sym number) now),
     )
 
-same_asks : (c u d t : ℕ) (a b : Alias) (f g : Call) → contents.Asks c u a f ≡ contents.Asks d t b g → (c ≡ d) × (u ≡ t) × (a ≡ b) × (f ≡ g)
+pub same_asks : (c u d t : ℕ) (a b : Alias) (f g : Call) → contents.Asks c u a f ≡ contents.Asks d t b g → (c ≡ d) × (u ≡ t) × (a ≡ b) × (f ≡ g)
 same_asks c u d t a b f g h = (cc, cc, cc, cc)
 
-call_posted : (config : Config) (ss : List Step) (j c : ℕ) (x : Asked) → IsRun config ss → (p : PostedCall (world_at config ss j).post x) → (sent : IsSent ss j c x.message) → IsCall config ss j c x
+unfoldable pub call_posted : (config : Config) (ss : List Step) (j c : ℕ) (x : Asked) → IsRun config ss → (p : PostedCall (world_at config ss j).post x) → (sent : IsSent ss j c x.message) → IsCall config ss j c x
 call_posted config ss j c x run p sent =
     let v : World = world_at config ss sent.place in
     let u : ℕ = unwrap_or (term_of v c) 0 in

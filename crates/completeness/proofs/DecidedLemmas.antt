@@ -79,7 +79,7 @@ left_later course old new stays later is = by_came (course old).came (course old
 
 -- ---- what is then of the course
 
-leaving_by : (c : ℕ) (s : CommandState) (x : CommandAnswer) → IsLeaving c (leaving c s x)
+pub leaving_by : (c : ℕ) (s : CommandState) (x : CommandAnswer) → IsLeaving c (leaving c s x)
 leaving_by c s x = of_test (owes_release s)
   where
     of_test : (b : Bool) → IsLeaving c (cond b (events.Release c) (events.End c x))
@@ -94,33 +94,33 @@ met_or_not config w c s x = of_test (meets config w (leaving c s x))
     of_test true = leaving_by c s x
     of_test false = leaving_by c s (answers.Refused refusals.OutOfMemory None)
 
-only_one : (x e : Event) (n : ℕ) → slice_get (x ∷ []) n ≡ Some e → x ≡ e
+pub only_one : (x e : Event) (n : ℕ) → slice_get (x ∷ []) n ≡ Some e → x ≡ e
 only_one x e zero h = let some : Some x ≡ Some e = h in cc
 only_one x e (suc n) h = absurd (let wrong : None ≡ Some e = h in cc)
 
-leaves_for : (c : ℕ) (o : Option CommandState) → IsLeaving c (leaves_by c o)
+pub leaves_for : (c : ℕ) (o : Option CommandState) → IsLeaving c (leaves_by c o)
 leaves_for c None = Ends (answers.Refused refusals.OutOfMemory None)
 leaves_for c (Some s) = leaving_by c s (answers.Refused refusals.OutOfMemory None)
 
-may_leave : (config : Config) (w : World) (c n : ℕ) (s : CommandState) (e : Event) (d : Demand) → IsLeft d → slice_get (may_by config w c s d) n ≡ Some e → IsLeaving c e
+pub may_leave : (config : Config) (w : World) (c n : ℕ) (s : CommandState) (e : Event) (d : Demand) → IsLeft d → slice_get (may_by config w c s d) n ≡ Some e → IsLeaving c e
 may_leave config w c n s e d left at =
     let only : slice_get (if_met config w c s (leaving c s left.0) ∷ []) n ≡ Some e = subst (λ (x : Demand). slice_get (may_by config w c s x) n ≡ Some e) left.1 at in
     subst (λ (x : Event). IsLeaving c x) (only_one (if_met config w c s (leaving c s left.0)) e n only) (met_or_not config w c s left.0)
 
 -- ---- whose event it is
 
-abbrev own_in : ℕ → Option ℕ → Bool
+abbrev pub own_in : ℕ → Option ℕ → Bool
 own_in c None = false
 own_in c (Some d) = d == c
 
-own_is : (c : ℕ) (o : Option ℕ) → own_in c o ≡ true → o ≡ Some c
+pub own_is : (c : ℕ) (o : Option ℕ) → own_in c o ≡ true → o ≡ Some c
 own_is c None h = absurd (false≢true h)
 own_is c (Some d) h = ap (λ (n : ℕ). Some n) (let same : d ≡ c = grind (arith, nat_tests) in same)
 
 not_own : (b : Bool) (o : Option Act) → b ≡ false → cond b o None ≡ None
 not_own b o h = ap (λ (t : Bool). cond t o None) h
 
-no_act : (c : ℕ) (e : Event) (r : Reply) → own_in c (maker_of e) ≡ false → act_of c e r ≡ None
+pub no_act : (c : ℕ) (e : Event) (r : Reply) → own_in c (maker_of e) ≡ false → act_of c e r ≡ None
 no_act c (events.Take d) r h = not_own (d == c) _ h
 no_act c (events.Read d) r h = not_own (d == c) _ h
 no_act c (events.Intend d a) r h = not_own (d == c) _ h
@@ -131,7 +131,7 @@ no_act c (events.Write d a) r h = not_own (d == c) _ h
 no_act c (events.Tell d) r h = not_own (d == c) _ h
 no_act c _ r h = refl
 
-leaving_act : (c : ℕ) (e : Event) (r : Reply) → IsLeaving c e → act_of c e r ≡ None
+pub leaving_act : (c : ℕ) (e : Event) (r : Reply) → IsLeaving c e → act_of c e r ≡ None
 leaving_act c _ r Frees = refl
 leaving_act c _ r (Ends x) = refl
 
@@ -149,7 +149,7 @@ acts_stay config ss c k s t step run here none old new =
     acts_so_far config ss (suc k) c t run new ∙ take_none (λ (x : Step). act_of c x.event x.reply) ss k step here none ∙ sym (acts_so_far config ss k c s run old)
 
 -- each call that it sent is in the post
-all_posted : (config : Config) (ss : List Step) (c k : ℕ) (s : CommandState) → IsRun config ss → numbered (world_at config ss k).commands c ≡ Some s
+pub all_posted : (config : Config) (ss : List Step) (c k : ℕ) (s : CommandState) → IsRun config ss → numbered (world_at config ss k).commands c ≡ Some s
     → AllPosted (world_at config ss k).post s.acts
 all_posted config ss c k s run here n sent =
     let was = was_sent config ss k c n s run here sent in
@@ -159,7 +159,7 @@ all_posted config ss c k s run here n sent =
 
 -- ---- step by step
 
-open_is : (o : Option CommandState) (s : CommandState) → if_open o ≡ Some s → o ≡ Some s
+pub open_is : (o : Option CommandState) (s : CommandState) → if_open o ≡ Some s → o ≡ Some s
 open_is None s h = absurd (let wrong : None ≡ Some s = h in cc)
 open_is (Some t) s h = of_test t.ended h
   where
@@ -179,10 +179,10 @@ leaves_so config w c s e here left (GoesOn n at) = of_open (open_command w c) re
 leaves_so config w c s e here left (Leaves t is so) = subst (λ (x : Event). IsLeaving c x) (sym so) (leaves_for c (open_command w c))
 
 -- every step of a history is of its command's course
-abbrev FollowsAt : Config → List Step → Type 0
+abbrev pub FollowsAt : Config → List Step → Type 0
 FollowsAt config ss = (k : ℕ) (step : Step) → slice_get ss k ≡ Some step → KeepsToCourse config (world_at config ss k) step.event
 
-follows_at : (config : Config) (w : World) (ss : List Step) (k : ℕ) (step : Step) → FollowCourses config w ss → slice_get ss k ≡ Some step
+pub follows_at : (config : Config) (w : World) (ss : List Step) (k : ℕ) (step : Step) → FollowCourses config w ss → slice_get ss k ≡ Some step
     → KeepsToCourse config (world_after config w (take k ss)) step.event
 follows_at config w [] k step follows at = absurd (let wrong : None ≡ Some step = at in cc)
 follows_at config w (s ∷ ss) zero step follows at =
@@ -304,7 +304,7 @@ not_send c _ a call is Frees = let wrong : events.Release c ≡ events.Send c a 
 not_send c _ a call is (Ends x) = let wrong : events.End c x ≡ events.Send c a call = is in cc
 
 -- an emergency's course is that of its options
-course_is : (g : Group) (command : Command) (opened : Opening) (o : EmergencyOptions) → emergency_options command ≡ Some o → course_of g command opened ≡ emergency_course g o
+pub course_is : (g : Group) (command : Command) (opened : Opening) (o : EmergencyOptions) → emergency_options command ≡ Some o → course_of g command opened ≡ emergency_course g o
 unfolding course_of
 course_is g (commands.Emergency shard new_primary ignored expected timeout preventing) opened o is =
     ap (λ (x : EmergencyOptions). emergency_course g x) (let some : Some (emergency_with new_primary ignored expected timeout preventing) ≡ Some o = is in cc)

@@ -185,7 +185,7 @@ holds_after config w e c u met termed keeps holds =
     of_cases (inl same) = same ∙ holds.own
     of_cases (inr takes) = absurd (let none : None ≡ Some u = sym takes.1.before ∙ holds.own in cc)
 
-taken_now : (r : Result ℕ LockTaken) (u : ℕ) → replies.Term u ≡ taken_reply r → r ≡ Ok u
+pub taken_now : (r : Result ℕ LockTaken) (u : ℕ) → replies.Term u ≡ taken_reply r → r ≡ Ok u
 taken_now (Ok t) u h = let same : t ≡ u = cc in ap (λ (n : ℕ). Ok n) same
 taken_now (Err held) u h = absurd (cc)
 

@@ -34,6 +34,7 @@ use Rattle.courses.specs.Walks.{Course, Walked, walked, gives, goes_on, ◌>>=�
 pub record LaterAsked (x y : Asked) : Type 0 where
   pub alias : y.alias ≡ x.alias
   pub kind : y.kind ≡ x.kind
+  pub message : y.message ≡ x.message
   pub outcome : (x.outcome ≡ None) ⊎ (y.outcome ≡ x.outcome)
 
 pub data LaterDeed : Deed → Deed → Type 0 where
@@ -141,7 +142,7 @@ pub later_ask : (a : Alias) (kind : Kind) (x y : Asked) → LaterAsked x y → i
 later_ask a kind x y l = ap (λ (b : Alias). alias_eq b a && kind_eq y.kind kind) l.alias ∙ ap (λ (k : Kind). alias_eq x.alias a && kind_eq k kind) l.kind
 
 pub itself : (x : Asked) → LaterAsked x x
-itself x = record { alias = refl; kind = refl; outcome = inr refl }
+itself x = record { alias = refl; kind = refl; message = refl; outcome = inr refl }
 
 pub ask_if : (b c : Bool) (x y : Asked) → c ≡ b → LaterAsked x y → Stays LaterAsked (walked (cond b (Ok x) (Err exits.Strays))) (walked (cond c (Ok y) (Err exits.Strays)))
 ask_if true true x y same l = λ rest now later. record { value = y; came = refl; related = l; later = later }

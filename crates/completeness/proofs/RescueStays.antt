@@ -86,7 +86,7 @@ answer_alike : (x y : Asked) (answer : Answer) → LaterAsked x y → is_none (r
 answer_alike x y (says.Kept stand) l = if_alike (is_of_promotion x.kind) (is_of_promotion y.kind) _ _ (ap (λ (k : Kind). is_of_promotion k) l.kind)
 answer_alike x y _ l = refl
 
-after_alike : (x y : Asked) (o : Outcome) → LaterAsked x y → is_none (refusal_after y o) ≡ is_none (refusal_after x o)
+pub after_alike : (x y : Asked) (o : Outcome) → LaterAsked x y → is_none (refusal_after y o) ≡ is_none (refusal_after x o)
 after_alike x y (outcomes.Answered answer) l = answer_alike x y answer l
 after_alike x y (outcomes.GivenUp why) l = refl
 

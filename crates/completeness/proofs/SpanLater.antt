@@ -48,7 +48,7 @@ call_later : (old new : List Message) (k : ℕ) (m v : Message) (content : Conte
 call_later old new k m v (contents.Asks c t to call) ds es stay firm rest =
     let x : Asked = record { alias = to; kind = kind_of call; message = k; term = t; sent = m.sent; arrived = unwrap_or m.arrived 0; outcome = outcome_of old m } in
     let y : Asked = record { alias = to; kind = kind_of call; message = k; term = t; sent = v.sent; arrived = unwrap_or v.arrived 0; outcome = outcome_of new v } in
-    More (deeds.Asked x) (deeds.Asked y) ds es (Comes x y (record { alias = refl; kind = refl; outcome = outcome_stays old new m v stay firm })) rest
+    More (deeds.Asked x) (deeds.Asked y) ds es (Comes x y (record { alias = refl; kind = refl; message = refl; outcome = outcome_stays old new m v stay firm })) rest
 call_later old new k m v (contents.Answers c a from says) ds es stay firm rest = rest
 call_later old new k m v (contents.Feeds from to term after index e) ds es stay firm rest = rest
 call_later old new k m v (contents.Acks from to term index) ds es stay firm rest = rest

@@ -1,2 +1,4 @@
 pub mod Kept
 pub mod Refused
+pub mod Following
+pub mod Planned
