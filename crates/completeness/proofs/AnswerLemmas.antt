@@ -1,6 +1,6 @@
 -- What a tablet answers to a call that is not stale, and when that refuses the command nothing. The calls are those of Vitess's tablet manager (Vitess
 -- manual).
-use Rattle.std.proofs.Common.{◌≡◌, ◌⊎◌, inl, inr, refl, ap, sym, ◌∙◌, arith, ℕ, Bool, true, false, ◌||◌, ◌==◌, nat_lt, cond, None}
+use Rattle.std.proofs.Common.{◌≡◌, ◌⊎◌, inl, inr, refl, ap, sym, ◌∙◌, arith, ℕ, Bool, true, false, ◌||◌, ◌&&◌, ◌==◌, nat_lt, cond, None}
 use Rattle.std.proofs.lemmas.Bool.{false≢true}
 use Rattle.std.proofs.lemmas.Bool.Decides.{nat_tests}
 use Rattle.shard_base.specs.Options.{only_if}
@@ -21,8 +21,8 @@ use Rattle.shard_calls.specs.declared.span.Kind.TheVariants as kinds
 use Rattle.shard_calls.specs.declared.stand.Stand.{Stand}
 use Rattle.shard_calls.specs.declared.stand.Stand.TheVariants as stands
 use Rattle.shard_calls.specs.Refusals.{is_of_promotion, refusal_to}
-use Rattle.shard_calls.specs.Stands.{is_primary_of, is_replica_in, standing_of}
-use Rattle.shard_calls.specs.Tablets.{TabletState, Verdict, after_call, answer_to, demotes, in_term, is_row_told, joins, promotes, waits_for_position, waits_told}
+use Rattle.shard_calls.specs.Stands.{is_feeder_in, is_primary_of, is_stopped, is_replica_in, standing_of}
+use Rattle.shard_calls.specs.Tablets.{TabletState, Verdict, after_call, answer_to, demotes, in_term, is_row_told, joins, promotes, waits_for_position, waits_told, feeds}
 use Rattle.shard_calls.proofs.LawLemmas.{chosen}
 use Rattle.shard_calls.proofs.LogLemmas.{has_row-push}
 
@@ -63,6 +63,15 @@ joins_unrefused x g me u t source p s kind can =
     no_errant (inl inside) other errant = false≢true (sym errant ∙ inside)
     no_errant (inr replica) other errant =
         false≢true (sym other ∙ or_right (is_primary_of s.stand t) (is_replica_in s.stand t) (ap (λ (y : Stand). is_replica_in y t) replica.1 ∙ itself t))
+
+-- a Feed
+pub feeds_unrefused : (x : Asked) (g : Group) (me : Tablet) (u : ℕ) (s : TabletState) → x.kind ≡ kinds.Feed → IsFresh (answer_to g me u calls.Feed s)
+    → refusal_to x (answer_to g me u calls.Feed s) ≡ None
+feeds_unrefused x g me u s kind =
+    fresh_only x u s (feeds u)
+    (chosen (λ v. refusal_to x v.says ≡ None) (is_feeder_in s.stand u) _ _ (λ feeder. refl)
+    (λ other. chosen (λ v. refusal_to x v.says ≡ None) (is_stopped s.stand && (s.promised == u)) _ _ (λ stopped. refl)
+    (λ kept. kept_unrefused x s.stand (ap (λ (k : Kind). is_of_promotion k) kind))))
 
 -- a WaitFor, of a tablet that has it
 pub holds_unrefused : (x : Asked) (g : Group) (me : Tablet) (u until : ℕ) (p : Position) (s : TabletState) → covers (position_of s.log) p ≡ true

@@ -15,9 +15,9 @@ use Rattle.shard_calls.specs.Kinds.{kind_of}
 use Rattle.courses.specs.declared.want.Exit.{Exit}
 use Rattle.courses.specs.declared.want.Exit.TheVariants as exits
 use Rattle.courses.specs.Sound as sound
-use Rattle.courses.specs.Sound.{AreCalled, IsEnd}
+use Rattle.courses.specs.Sound.{AreCalled, IsEnd, IsPart}
 use Rattle.courses.specs.Walks.{Course, Walked, walked, goes_on, asked, is_ask, called_all, calling, is_out, all_settled, calls_all}
-use Rattle.completeness.proofs.GoingLemmas.{Doing, Was, Going, Goes, Only, Stays}
+use Rattle.completeness.proofs.GoingLemmas.{Doing, Was, Going, Goes, Only, Stays, append_none}
 use Rattle.completeness.proofs.LaterLemmas.{Later, Nothing, More, LaterDeed, Itself, Comes, later_ask}
 
 -- ---- those that were called
@@ -115,9 +115,9 @@ called_so (a ∷ more) kind (d ∷ rest) is = of_cases (asked_or_not a kind d) (
 
 -- ---- with what each came to
 
--- earlier they were the same calls, and settled
+-- earlier they were the same calls, and settled, among what was done by then
 abbrev pub SettledIn : (List Deed → Type 0) → List Deed → List Deed → List Deed → Type 0
-SettledIn F ds es past = F past × Later es ds × (list_any is_out es ≡ false)
+SettledIn F ds es past = F past × Later es ds × (list_any is_out es ≡ false) × IsPart past es
 
 later_none : (e ds : List Deed) → Later e ds → ds ≡ [] → e ≡ []
 later_none _ _ Nothing same = refl
@@ -151,8 +151,15 @@ settled_at F them call Q rest left stays called false is gives = record {
     of_out : (e b more : List Deed) (o : Bool) → list_any is_out (take (length them) (e ++ more)) ≡ o → F b → take (length them) (e ++ more) ≡ e → Later e called.used
         → Was (SettledIn F (take (length them) rest)) (cond o (Err exits.Waits) (Ok (take (length them) (e ++ more)))) more (b ++ e) more
     of_out e b more true outs fact part later = tt
-    of_out e b more false outs fact part later =
-        (refl, (stays b e fact, subst (λ (l : List Deed). Later l (take (length them) rest)) (sym part) (subst (λ (l : List Deed). Later e l) (sym whole) later), outs))
+    of_out e b more false outs fact part later = (
+      refl,
+      (
+        stays b e fact,
+        subst (λ (l : List Deed). Later l (take (length them) rest)) (sym part) (subst (λ (l : List Deed). Later e l) (sym whole) later),
+        outs,
+        record { before = b; after = []; split = ap (λ (l : List Deed). b ++ l) (sym (append_none (take (length them) (e ++ more)) ∙ part)) },
+      ),
+    )
 
 -- all are called, and none of it is a refusal
 pub calls_goes : (Made : Doing) (span : List Deed) (F : List Deed → Type 0) (g : Group) (them : List Alias) (call : Call) → Stays F

@@ -336,3 +336,36 @@ weaker_at Q S G H M (Err exits.OutOfMemory) rest left gives less goes = goes
 pub weaker_goes : {A : Type 0} (Made : Doing) (span : List Deed) (Q S : A → Type 0) (G H : A → List Deed → Type 0) (M : Versions A) (n : Course A) → ((x : A) → Q x → S x)
     → ((x : A) (b : List Deed) → Q x → G x b → H x b) → Goes Made span Q (Same G) M n → Goes Made span S (Same H) M n
 weaker_goes Made span Q S G H M n gives less goes rest end heeded = weaker_at Q S G H M (n rest).came rest (n rest).rest gives less (goes rest end heeded)
+
+-- of fewer versions
+narrower_at : {A : Type 0} (Q : A → Type 0) (After : A → A → List Deed → Type 0) (M N : Versions A) (r : Result A Exit) (rest left : List Deed)
+    → ((m : Course A) (b : List Deed) → M m b → N m b) → Going Q After N r rest left → Going Q After M r rest left
+narrower_at Q After M N (Ok x) rest left fewer goes = record {
+  used = goes.used;
+  split = goes.split;
+  is = goes.is;
+  was = λ m b e more version later. goes.was m b e more (fewer m b version) later;
+}
+narrower_at Q After M N (Err (exits.Does want)) rest left fewer goes = goes
+narrower_at Q After M N (Err (exits.Refused r)) rest left fewer goes = goes
+narrower_at Q After M N (Err exits.Waits) rest left fewer goes = goes
+narrower_at Q After M N (Err exits.Strays) rest left fewer goes = goes
+narrower_at Q After M N (Err exits.OutOfMemory) rest left fewer goes = goes
+
+pub narrower_goes : {A : Type 0} (Made : Doing) (span : List Deed) (Q : A → Type 0) (After : A → A → List Deed → Type 0) (M N : Versions A) (n : Course A)
+    → ((m : Course A) (b : List Deed) → M m b → N m b) → Goes Made span Q After N n → Goes Made span Q After M n
+narrower_goes Made span Q After M N n fewer goes rest end heeded =
+    narrower_at Q After M N (n rest).came rest (n rest).rest fewer
+    (goes rest end
+    (λ done more d split.
+    let demanded = heeded done more d split in
+    record {
+      before = demanded.before;
+      along = demanded.along;
+      course = demanded.course;
+      want = demanded.want;
+      version = fewer demanded.course demanded.before demanded.version;
+      later = demanded.later;
+      made = demanded.made;
+      passes = demanded.passes;
+    }))

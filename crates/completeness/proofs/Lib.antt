@@ -25,3 +25,7 @@ pub mod TakeLemmas
 pub mod PlannedGoes
 pub mod ReparentPoints
 pub mod PlannedCompletes
+pub mod RowLemmas
+pub mod RescueLemmas
+pub mod EmergencyGoes
+pub mod EmergencyCompletes

@@ -1,9 +1,8 @@
 -- The course of a PlannedReparentShard that nothing hinders, point by point: nothing of it is refused, so it never has to undo anything (Vitess manual).
-use Rattle.std.proofs.Common.{◌≡◌, ◌⊎◌, inl, inr, refl, ap, sym, subst, ◌∙◌, arith, ℕ, ◌+◌, ◌==◌, Bool, true, false, nat_lt, cond, List, [], ◌++◌, Option, Some, None, Result, Ok, Err}
+use Rattle.std.proofs.Common.{◌≡◌, refl, ap, sym, subst, ◌∙◌, arith, ℕ, ◌==◌, Bool, true, false, cond, List, [], ◌++◌, Option, Some, None, Result, Ok, Err}
 use Rattle.std.specs.Prelude.{⊤}
 use Rattle.std.specs.List.{list_any, slice_get}
 use Rattle.shard_names.specs.declared.alias.Alias.{Alias}
-use Rattle.shard_names.specs.declared.tablet.Tablet.{Tablet}
 use Rattle.shard_names.specs.Tablets.{alias_eq}
 use Rattle.gtid_sets.specs.Logs.{position_of}
 use Rattle.gtid_sets.specs.Position.{Position, covers, has, nothing}
@@ -27,36 +26,34 @@ use Rattle.shard_calls.specs.declared.span.Deed.TheVariants as deeds
 use Rattle.shard_calls.specs.declared.span.Kind.TheVariants as kinds
 use Rattle.shard_calls.specs.Causes.{is_idle}
 use Rattle.shard_calls.specs.Choosing.{candidates, first_of, follower}
-use Rattle.shard_calls.specs.Refusals.{refusal_after, refusal_by_demoted, refusal_by_seen, refusal_of_crossing, refusal_of_planned, refusal_to}
-use Rattle.shard_calls.specs.Tablets.{TabletState, answer_to}
+use Rattle.shard_calls.specs.Refusals.{refusal_after, refusal_by_demoted, refusal_by_seen, refusal_of_crossing, refusal_of_planned}
 use Rattle.shard_calls.specs.declared.state.CommandState.{CommandState}
 use Rattle.shard_calls.specs.Spans.{span_of}
 use Rattle.shard_calls.specs.Table.{IsRun}
-use Rattle.shard_calls.specs.World.{Config, World, group_of, numbered}
+use Rattle.shard_calls.specs.World.{Config, group_of, numbered}
 use Rattle.shard_calls.specs.Promotions.{world_at}
 use Rattle.shard_names.proofs.TabletLemmas.{alias_eq_is}
 use Rattle.courses.specs.declared.want.Exit.{Exit}
 use Rattle.courses.specs.declared.want.Exit.TheVariants as exits
 use Rattle.courses.specs.declared.want.Want.TheVariants as wants
-use Rattle.courses.specs.Planned.{catches_up, demoted_position, demotes, first_primary, following, holding, planned_course, reparents_all, reparents_by, reparents_from, replaced_by, replaces, successor}
+use Rattle.courses.specs.Planned.{catches_up, demoted_position, demotes, first_primary, planned_course, reparents_all, reparents_by, reparents_from, replaced_by, replaces, successor}
 use Rattle.courses.specs.Promoting.{others_than}
 use Rattle.courses.specs.Sound.{AreCalled, IsRead}
 use Rattle.courses.specs.SoundLemmas.{calls_sound}
 use Rattle.courses.specs.Walks.{Course, Walked, walked, gives, needs, or_refusing, reads, takes_lock, tried, unless, unless_refused, calls_all, is_out, ◌>>=◌, ◌>>◌}
-use Rattle.completeness.specs.Planned.{CatchesUp, ComesTo, Completes, HasNothingToDo, HasRead, IsConcerned, IsPromoted, NothingHinders}
-use Rattle.completeness.proofs.AnswerLemmas.{IsFresh, holds_unrefused, joins_unrefused, stale_wait}
+use Rattle.completeness.specs.Planned.{CatchesUp, Completes, HasNothingToDo, HasRead, IsConcerned, IsPromoted, NothingHinders}
 use Rattle.completeness.proofs.ChosenLemmas.{follower_same}
 use Rattle.completeness.proofs.DemotedLemmas.{not_by_demote, not_pending}
 use Rattle.completeness.proofs.GoingCalls.{SettledIn, calls_goes}
 use Rattle.completeness.proofs.GoingLemmas.{Doing, Versions, Was, Going, Goes, IsFirst, IsNoRefusal, Only, Same, Stays, bind_along, bind_goes, none_earlier, pure_goes, weaker_goes}
 use Rattle.completeness.proofs.GoingPoints.{Answers, AnsweredIn, IsGranted, Tried, TriedIn, WasAnswered, needs_goes, tried_goes, was_answered_stays}
 use Rattle.completeness.proofs.LaterLemmas.{Later}
-use Rattle.completeness.proofs.MadeCalls.{Keeper, KeptCall, Made, granted, in_span, made_call, never_stale, span_is, span_to}
+use Rattle.completeness.proofs.MadeCalls.{Keeper, Made, in_span, made_call, span_is, span_to}
 use Rattle.completeness.proofs.PastLemmas.{before, demoted_has, holder_has}
 use Rattle.completeness.proofs.PlannedLemmas.{first_left, follower_left}
 use Rattle.completeness.proofs.PromotingGoes.{Anyhow, HasAll, PromotesFreely, reparents_goes}
 use Rattle.completeness.proofs.ReadLemmas.{has_read}
-use Rattle.completeness.proofs.ReparentPoints.{CaughtUp, anyhow_goes, covers_nothing, following_so, holding_so, holds_is, reads_goes, takes_goes, unless_goes, waits_until}
+use Rattle.completeness.proofs.ReparentPoints.{CaughtUp, follows_goes, follows_on, joins_granted, waits_granted, anyhow_goes, covers_nothing, reads_goes, takes_goes, unless_goes}
 use Rattle.completeness.proofs.StaysPrimary.{stays_primary}
 
 -- ---- where nothing hinders it
@@ -90,7 +87,7 @@ promotes_freely config ss c j o u = record {
       u.free.settled x why (in_span config ss c u.free.freed (keeper_of config ss c j o u) (deeds.Asked x) is) (IsPromoted sent.0 sent.1.0 sent.1.1.0 sent.1.1.1) came;
   leads = λ a k me call sent intended comes me_is later earlier.
       stays_primary config ss c u.free.term u.free.taken u.free.freed a u.run u.free.kept
-      (λ i keep s after within at is. u.free.up i keep s a after within at (IsPromoted sent.0 sent.1.0 sent.1.1.0 sent.1.1.1) is) intended k (omega (arith, later)) (omega (arith, earlier));
+      (λ i keep s after within row at is. u.free.up i keep s a after within at (IsPromoted sent.0 sent.1.0 sent.1.1.0 sent.1.1.1) is) intended k (omega (arith, later)) (omega (arith, earlier));
   in_time = u.free.in_time_told;
 }
 
@@ -304,55 +301,18 @@ source_granted : (config : Config) (ss : List Step) (c j : ℕ) (o : PlannedOpti
     (a : Alias) (p : Position) → IsRead (span_by config ss c j o u) seen → seen.intent ≡ Some i
     → IsGranted (Doings config ss c j o u) F a (calls.SetSource i.alias i.term p)
 source_granted config ss c j o u F seen i a p is intent =
-    granted config ss c u.free.freed (keeper_of config ss c j o u) F a (calls.SetSource i.alias i.term p) refl
-    (λ x why past made fact came. u.free.settled x why (in_span config ss c u.free.freed (keeper_of config ss c j o u) (deeds.Asked x) made.stands)
+    joins_granted config ss c u.free.freed (keeper_of config ss c j o u) F a i.alias i.term p
+    (λ x why past made came. u.free.settled x why (in_span config ss c u.free.freed (keeper_of config ss c j o u) (deeds.Asked x) made.stands)
     (caught_up_with config ss c j o u seen i a p x past is intent made) came)
-    (λ x said past made fact kept. unrefused x said past made kept)
-  where
-    unrefused : (x : Asked) (said : Answer) (past : List Deed) → (made : Doings config ss c j o u (wants.Ask a (calls.SetSource i.alias i.term p)) (deeds.Asked x) past)
-        → KeptCall config ss c u.free.freed (keeper_of config ss c j o u) x a (calls.SetSource i.alias i.term p) made.place said → refusal_to x said ≡ None
-    unrefused x said past made kept =
-        let call = kept.is_kept in
-        let at = call.answered.place in
-        let me = call.answered.me in
-        let w : World = world_at config ss at in
-        let comes : ComesTo config ss c u.free.term at me (calls.SetSource i.alias i.term p) =
-        subst (λ (f : Call). ComesTo config ss c u.free.term at me f) kept.call_is call.comes in
-        let answers : answer_to w.group me u.free.term (calls.SetSource i.alias i.term p) (w.tablets me.alias) ≡ said =
-        ap (λ (f : Call). answer_to w.group me u.free.term f (w.tablets me.alias)) (sym kept.call_is) ∙ call.says in
-        subst (λ (y : Answer). refusal_to x y ≡ None) answers
-        (joins_unrefused x w.group me u.free.term i.term i.alias p (w.tablets me.alias) kept.kind (u.free.joins seen i at me p (read_with config ss c j o u seen is) intent comes)
-        (λ t stale. never_stale config ss c u.free.freed (keeper_of config ss c j o u) x a (calls.SetSource i.alias i.term p) made.place said t kept (sym answers ∙ stale)))
+    (λ k me comes. u.free.joins seen i k me p (read_with config ss c j o u seen is) intent comes)
 
 wait_granted : (config : Config) (ss : List Step) (c j : ℕ) (o : PlannedOptions) → (u : Unhindered config ss c j o) → (F : List Deed → Type 0)
     (a : Alias) (p : Position) → IsConcerned ss c a → IsGranted (Doings config ss c j o u) F a (calls.WaitFor p o.timeout)
 wait_granted config ss c j o u F a p concerned =
-    granted config ss c u.free.freed (keeper_of config ss c j o u) F a (calls.WaitFor p o.timeout) refl
-    (λ x why past made fact came. u.free.settled x why (in_span config ss c u.free.freed (keeper_of config ss c j o u) (deeds.Asked x) made.stands)
+    waits_granted config ss c u.free.freed (keeper_of config ss c j o u) F a p o.timeout
+    (λ x why past made came. u.free.settled x why (in_span config ss c u.free.freed (keeper_of config ss c j o u) (deeds.Asked x) made.stands)
     (subst (λ (b : Alias). IsConcerned ss c b) (sym (made_call config ss c u.free.freed u.state x a (calls.WaitFor p o.timeout) past u.run made).alias) concerned) came)
-    (λ x said past made fact kept. unrefused x said past made kept)
-  where
-    unrefused : (x : Asked) (said : Answer) (past : List Deed) → (made : Doings config ss c j o u (wants.Ask a (calls.WaitFor p o.timeout)) (deeds.Asked x) past)
-        → KeptCall config ss c u.free.freed (keeper_of config ss c j o u) x a (calls.WaitFor p o.timeout) made.place said → refusal_to x said ≡ None
-    unrefused x said past made kept =
-        let call = kept.is_kept in
-        let at = call.answered.place in
-        let me = call.answered.me in
-        let w : World = world_at config ss at in
-        let until : ℕ = (world_at config ss made.place).clock + o.timeout in
-        let comes : ComesTo config ss c u.free.term at me (calls.WaitFor p until) =
-        subst (λ (f : Call). ComesTo config ss c u.free.term at me f) kept.call_is call.comes in
-        let answers : answer_to w.group me u.free.term (calls.WaitFor p until) (w.tablets me.alias) ≡ said =
-        ap (λ (f : Call). answer_to w.group me u.free.term f (w.tablets me.alias)) (sym kept.call_is) ∙ call.says in
-        let fresh : IsFresh (answer_to w.group me u.free.term (calls.WaitFor p until) (w.tablets me.alias)) =
-        λ t stale. never_stale config ss c u.free.freed (keeper_of config ss c j o u) x a (calls.WaitFor p o.timeout) made.place said t kept (sym answers ∙ stale) in
-        subst (λ (y : Answer). refusal_to x y ≡ None) answers
-        (of_cases x w.group me until (w.tablets me.alias) (waits_until config ss c u.free.term at until me p u.run comes (u.free.in_time_for at until me p comes)) fresh)
-      where
-        of_cases : (x : Asked) (g : Group) (me : Tablet) (until : ℕ) (s : TabletState) → (nat_lt u.free.term s.seen ≡ true) ⊎ (covers (position_of s.log) p ≡ true)
-            → IsFresh (answer_to g me u.free.term (calls.WaitFor p until) s) → refusal_to x (answer_to g me u.free.term (calls.WaitFor p until) s) ≡ None
-        of_cases x g me until s (inl seen) fresh = absurd (stale_wait g me u.free.term until p s seen fresh)
-        of_cases x g me until s (inr holds) fresh = holds_unrefused x g me u.free.term until p s holds fresh
+    (λ k until me comes. u.free.in_time_for k until me p comes)
 
 catches_goes : (config : Config) (ss : List Step) (c j : ℕ) (o : PlannedOptions) → (u : Unhindered config ss c j o) → (F : List Deed → Type 0) (seen : Seen) (i : Intent)
     (a : Alias) (p : Position) → Stays F → IsRead (span_by config ss c j o u) seen → seen.intent ≡ Some i
@@ -361,20 +321,8 @@ catches_goes : (config : Config) (ss : List Step) (c j : ℕ) (o : PlannedOption
 unfolding catches_up
 catches_goes config ss c j o u F seen i a p stays is intent =
     bind_goes made span F (Answers made a source) (AnsweredIn made F a source) (λ x. ⊤) (Same (λ x b. CaughtUp made F a p o.timeout b)) (needs a source)
-    (λ x. walked (following x) >> needs a waits >>= λ y. walked (holding y))
-    (needs_goes made span F a source stays (source_granted config ss c j o u F seen i a p is intent))
-    (λ x said. bind_goes made span (AnsweredIn made F a source x) (Answers made a waits) (AnsweredIn made F a waits) (λ y. ⊤) (Same (λ y b. CaughtUp made F a p o.timeout b))
-    (walked (following x) >> needs a waits) (λ y. walked (holding y))
-    (bind_goes made span (AnsweredIn made F a source x) (λ (y : Unit {0}). ⊤) (λ y b. F b) (Answers made a waits) (Same (AnsweredIn made F a waits)) (walked (following x))
-    (λ y. needs a waits)
-    (weaker_goes made span (λ (y : Unit {0}). ⊤) (λ y. ⊤) (λ y b. AnsweredIn made F a source x b) (λ y b. F b) (Only (AnsweredIn made F a source x) (walked (following x)))
-    (walked (following x)) (λ y any. tt) (λ y b any fact. fact.0)
-    (pure_goes made span (AnsweredIn made F a source x) (λ y. ⊤) (following x) (following_so x) (λ y any. tt)))
-    (λ y any. needs_goes made span F a waits stays (wait_granted config ss c j o u F a p (concerned x said))))
-    (λ y held. weaker_goes made span (λ z. y ≡ says.Holds) (λ z. ⊤) (λ z b. AnsweredIn made F a waits y b) (λ z b. CaughtUp made F a p o.timeout b)
-    (Only (AnsweredIn made F a waits y) (walked (holding y))) (walked (holding y)) (λ z so. tt)
-    (λ z b so fact. (fact.0, subst (λ (v : Answer). WasAnswered made a waits v b) so fact.1))
-    (pure_goes made span (AnsweredIn made F a waits y) (λ z. y ≡ says.Holds) (holding y) (holding_so y) (λ z so. holds_is y z so))))
+    (follows_on o.timeout a p) (needs_goes made span F a source stays (source_granted config ss c j o u F seen i a p is intent))
+    (λ x said. follows_goes made span F (AnsweredIn made F a source x) a p o.timeout x stays (λ b fact. fact.0) (wait_granted config ss c j o u F a p (concerned x said)))
   where
     made : Doing
     made = Doings config ss c j o u
@@ -384,9 +332,6 @@ catches_goes config ss c j o u F seen i a p stays is intent =
 
     source : Call
     source = calls.SetSource i.alias i.term p
-
-    waits : Call
-    waits = calls.WaitFor p o.timeout
 
     concerned : (x : Answer) → Answers (Doings config ss c j o u) a (calls.SetSource i.alias i.term p) x → IsConcerned ss c a
     concerned x said =
@@ -484,9 +429,9 @@ pub planned_goes : (config : Config) (ss : List Step) (c j : ℕ) (o : PlannedOp
     → GoesWell config ss c j o u Completes Anyhow (Only IsFirst (planned_course (group_of config) o)) (planned_course (group_of config) o)
 unfolding planned_course
 planned_goes config ss c j o u never =
-    bind_goes made span IsFirst (λ t. ⊤) (λ t b. ⊤) Completes Anyhow (unless (refusal_of_planned (group_of config) o) >> takes_lock)
+    bind_goes made span IsFirst (λ t. t ≡ u.free.term) (λ t b. ⊤) Completes Anyhow (unless (refusal_of_planned (group_of config) o) >> takes_lock)
     (λ t. reads >>= λ seen. unless (refusal_by_seen o.expected o.new_primary seen) >> reparents_by (group_of config) o t seen seen.intent)
-    (bind_goes made span IsFirst (λ (x : Unit {0}). ⊤) (λ x b. IsFirst b) (λ t. ⊤) (Same (λ t b. ⊤)) (unless (refusal_of_planned (group_of config) o)) (λ x. takes_lock)
+    (bind_goes made span IsFirst (λ (x : Unit {0}). ⊤) (λ x b. IsFirst b) (λ t. t ≡ u.free.term) (Same (λ t b. ⊤)) (unless (refusal_of_planned (group_of config) o)) (λ x. takes_lock)
     (unless_goes made span IsFirst (refusal_of_planned (group_of config) o) u.free.options)
     (λ x any. takes_goes config ss c u.free.freed (keeper_of config ss c j o u) never))
     (λ t any. bind_goes made span (λ b. ⊤) (λ seen. IsRead span seen) (λ seen b. ⊤) Completes Anyhow reads

@@ -19,11 +19,11 @@ not_refused o r none some = let wrong : None ≡ Some r = sym none ∙ some in c
 
 -- ---- where a tablet is left, one is chosen
 
-not_chosen : (o : Option Alias) (why : List Rejected) (r : Refusal) → chosen o why ≡ Err r → o ≡ None
+pub not_chosen : (o : Option Alias) (why : List Rejected) (r : Refusal) → chosen o why ≡ Err r → o ≡ None
 not_chosen None why r h = refl
 not_chosen (Some a) why r h = absurd (let wrong : Ok a ≡ Err r = h in cc)
 
-not_mapped : {A B : Type 0} (f : A → B) (o : Option A) → option_map f o ≡ None → o ≡ None
+pub not_mapped : {A B : Type 0} (f : A → B) (o : Option A) → option_map f o ≡ None → o ≡ None
 not_mapped f None h = refl
 not_mapped {A} {B} f (Some x) h = absurd (let wrong : Some (f x) ≡ None = h in cc)
 
@@ -57,7 +57,7 @@ still number (t ∷ ts) x h = of_number (number t) h (λ y k. still number ts y 
     of_number None k rest = rest x k
     of_number (Some n) k rest = of_test (nat_lt x.1 n) n k rest
 
-one_left : (number : Tablet → Option ℕ) (ts : List Tablet) (n v : ℕ) (t : Tablet) (so_far : Option (Alias × ℕ)) → slice_get ts n ≡ Some t → number t ≡ Some v
+pub one_left : (number : Tablet → Option ℕ) (ts : List Tablet) (n v : ℕ) (t : Tablet) (so_far : Option (Alias × ℕ)) → slice_get ts n ≡ Some t → number t ≡ Some v
     → best_from number so_far ts ≡ None → ⊥
 one_left number ts n v t (Some x) at is h = still number ts x h
 one_left number [] n v t None at is h = let wrong : None ≡ Some t = at in cc

@@ -1,5 +1,5 @@
 -- Points that the courses of reparents have in common, of a command that keeps its lock: none of them is refused (Vitess manual).
-use Rattle.std.proofs.Common.{◌≡◌, ◌⊎◌, inl, inr, refl, ap, sym, subst, arith, ℕ, ◌<◌, ◌≤◌, ◌||◌, ◌&&◌, Bool, true, false, not, nat_lt, nat_le, List, [], ◌++◌, Option, None, Result, Ok, Err}
+use Rattle.std.proofs.Common.{◌≡◌, ◌⊎◌, inl, inr, refl, ap, sym, subst, ◌∙◌, ◌+◌, Some, None, Option, arith, ℕ, ◌<◌, ◌≤◌, ◌||◌, ◌&&◌, Bool, true, false, not, nat_lt, nat_le, List, [], ◌++◌, Option, None, Result, Ok, Err}
 use Rattle.std.specs.Prelude.{⊤}
 use Rattle.std.proofs.lemmas.Bool.{false≢true}
 use Rattle.std.proofs.lemmas.Bool.Decides.{nat_tests}
@@ -16,7 +16,22 @@ use Rattle.shard_calls.specs.declared.ending.CommandAnswer.{CommandAnswer}
 use Rattle.shard_calls.specs.declared.event.Seen.{Seen}
 use Rattle.shard_calls.specs.declared.event.Step.{Step}
 use Rattle.shard_calls.specs.declared.refusal.Refusal.{Refusal}
+use Rattle.shard_calls.specs.declared.refusal.Refusal.TheVariants as refusals
+use Rattle.completeness.proofs.TakeLemmas.{taken_term}
+use Rattle.shard_calls.specs.declared.span.Asked.{Asked}
 use Rattle.shard_calls.specs.declared.span.Deed.{Deed}
+use Rattle.shard_calls.specs.declared.span.Outcome.TheVariants as outcomes
+use Rattle.shard_calls.specs.declared.why.Why.{Why}
+use Rattle.shard_calls.specs.declared.call.Call.{Call}
+use Rattle.shard_calls.specs.declared.group.Group.{Group}
+use Rattle.shard_calls.specs.Refusals.{refusal_to}
+use Rattle.shard_calls.specs.Tablets.{TabletState, answer_to}
+use Rattle.courses.specs.Walks.{Course, walked, needs, ◌>>=◌, ◌>>◌}
+use Rattle.completeness.specs.Planned.{CanJoin}
+use Rattle.completeness.proofs.AnswerLemmas.{IsFresh, holds_unrefused, joins_unrefused, stale_wait}
+use Rattle.completeness.proofs.GoingLemmas.{Stays, bind_goes, weaker_goes}
+use Rattle.completeness.proofs.GoingPoints.{Answers, AnsweredIn, IsGranted, needs_goes}
+use Rattle.completeness.proofs.MadeCalls.{KeptCall, granted, never_stale}
 use Rattle.shard_calls.specs.declared.span.Deed.TheVariants as deeds
 use Rattle.shard_calls.specs.declared.post.Content.{Content}
 use Rattle.shard_calls.specs.declared.post.Message.{Message}
@@ -115,15 +130,26 @@ took_so (deeds.Asked x) never = tt
 took_so (deeds.Wrote b reply) never = tt
 took_so (deeds.Told committed) never = tt
 
+took_is : (d : Deed) (t : ℕ) → took d ≡ Ok t → d ≡ deeds.Took (Ok t)
+took_is (deeds.Took (Ok v)) t h = let same : v ≡ t = (let both : Ok v ≡ Ok t = h in cc) in ap (λ (n : ℕ). deeds.Took (Ok n)) same
+took_is (deeds.Took (Err held)) t h = absurd (let wrong : Err (exits.Refused (refusals.LockTaken held.term held.actor)) ≡ Ok t = h in cc)
+took_is (deeds.Read reply) t h = absurd (let wrong : Err exits.Strays ≡ Ok t = h in cc)
+took_is (deeds.Intended b reply) t h = absurd (let wrong : Err exits.Strays ≡ Ok t = h in cc)
+took_is (deeds.Recorded b reply) t h = absurd (let wrong : Err exits.Strays ≡ Ok t = h in cc)
+took_is (deeds.Drained b reply) t h = absurd (let wrong : Err exits.Strays ≡ Ok t = h in cc)
+took_is (deeds.Asked x) t h = absurd (let wrong : Err exits.Strays ≡ Ok t = h in cc)
+took_is (deeds.Wrote b reply) t h = absurd (let wrong : Err exits.Strays ≡ Ok t = h in cc)
+took_is (deeds.Told committed) t h = absurd (let wrong : Err exits.Strays ≡ Ok t = h in cc)
+
 pub takes_goes : (config : Config) (ss : List Step) (c j : ℕ) (keeper : Keeper config ss c j)
     → ((held : LockTaken) → Made config ss c j keeper wants.Take (deeds.Took (Err held)) [] → ⊥)
-    → Goes (Made config ss c j keeper) (span_to config ss c j keeper) (λ u. ⊤) (Same (λ x b. ⊤)) (Only IsFirst takes_lock) takes_lock
+    → Goes (Made config ss c j keeper) (span_to config ss c j keeper) (λ t. t ≡ keeper.term) (Same (λ x b. ⊤)) (Only IsFirst takes_lock) takes_lock
 takes_goes config ss c j keeper never =
-    point_goes (Made config ss c j keeper) (span_to config ss c j keeper) IsFirst (λ b. ⊤) (λ u. ⊤) wants.Take took (λ x y. refl) (λ b e fact. tt)
+    point_goes (Made config ss c j keeper) (span_to config ss c j keeper) IsFirst (λ b. ⊤) (λ t. t ≡ keeper.term) wants.Take took (λ x y. refl) (λ b e fact. tt)
     (λ d past made first. took_so d (λ held is. never held
     (subst (λ (l : List Deed). Made config ss c j keeper wants.Take (deeds.Took (Err held)) l) first
     (subst (λ (e : Deed). Made config ss c j keeper wants.Take e past) is made))))
-    (λ d past x made is. tt)
+    (λ d past t made is. taken_term config ss c j keeper t past (subst (λ (e : Deed). Made config ss c j keeper wants.Take e past) (took_is d t is) made))
 
 -- ---- a WaitFor
 
@@ -182,3 +208,81 @@ following_so _ = tt
 pub holding_so : (answer : Answer) → IsNoRefusal (holding answer)
 holding_so says.Holds = tt
 holding_so _ = tt
+
+-- ---- a tablet that is to follow, and to catch up
+
+pub joins_granted : (config : Config) (ss : List Step) (c j : ℕ) (keeper : Keeper config ss c j) (F : List Deed → Type 0) (a source : Alias) (t : ℕ) (p : Position)
+    → ((x : Asked) (why : Why) (past : List Deed) → Made config ss c j keeper (wants.Ask a (calls.SetSource source t p)) (deeds.Asked x) past
+    → x.outcome ≡ Some (outcomes.GivenUp why) → ⊥)
+    → ((k : ℕ) (me : Tablet) → ComesTo config ss c keeper.term k me (calls.SetSource source t p) → CanJoin (world_at config ss k) me.alias source t p)
+    → IsGranted (Made config ss c j keeper) F a (calls.SetSource source t p)
+joins_granted config ss c j keeper F a source t p settled can =
+    granted config ss c j keeper F a (calls.SetSource source t p) refl (λ x why past made fact came. settled x why past made came)
+    (λ x said past made fact kept. unrefused x said past made kept)
+  where
+    unrefused : (x : Asked) (said : Answer) (past : List Deed) → (made : Made config ss c j keeper (wants.Ask a (calls.SetSource source t p)) (deeds.Asked x) past)
+        → KeptCall config ss c j keeper x a (calls.SetSource source t p) made.place said → refusal_to x said ≡ None
+    unrefused x said past made kept =
+        let call = kept.is_kept in
+        let at = call.answered.place in
+        let me = call.answered.me in
+        let w : World = world_at config ss at in
+        let comes : ComesTo config ss c keeper.term at me (calls.SetSource source t p) =
+        subst (λ (f : Call). ComesTo config ss c keeper.term at me f) kept.call_is call.comes in
+        let answers : answer_to w.group me keeper.term (calls.SetSource source t p) (w.tablets me.alias) ≡ said =
+        ap (λ (f : Call). answer_to w.group me keeper.term f (w.tablets me.alias)) (sym kept.call_is) ∙ call.says in
+        subst (λ (y : Answer). refusal_to x y ≡ None) answers
+        (joins_unrefused x w.group me keeper.term t source p (w.tablets me.alias) kept.kind (can at me comes)
+        (λ v stale. never_stale config ss c j keeper x a (calls.SetSource source t p) made.place said v kept (sym answers ∙ stale)))
+
+pub waits_granted : (config : Config) (ss : List Step) (c j : ℕ) (keeper : Keeper config ss c j) (F : List Deed → Type 0) (a : Alias) (p : Position) (timeout : ℕ)
+    → ((x : Asked) (why : Why) (past : List Deed) → Made config ss c j keeper (wants.Ask a (calls.WaitFor p timeout)) (deeds.Asked x) past
+    → x.outcome ≡ Some (outcomes.GivenUp why) → ⊥)
+    → ((k until : ℕ) (me : Tablet) → ComesTo config ss c keeper.term k me (calls.WaitFor p until) → (world_at config ss k).clock < until)
+    → IsGranted (Made config ss c j keeper) F a (calls.WaitFor p timeout)
+waits_granted config ss c j keeper F a p timeout settled in_time =
+    granted config ss c j keeper F a (calls.WaitFor p timeout) refl (λ x why past made fact came. settled x why past made came)
+    (λ x said past made fact kept. unrefused x said past made kept)
+  where
+    of_cases : (x : Asked) (g : Group) (me : Tablet) (until : ℕ) (s : TabletState) → (nat_lt keeper.term s.seen ≡ true) ⊎ (covers (position_of s.log) p ≡ true)
+        → IsFresh (answer_to g me keeper.term (calls.WaitFor p until) s) → refusal_to x (answer_to g me keeper.term (calls.WaitFor p until) s) ≡ None
+    of_cases x g me until s (inl seen) fresh = absurd (stale_wait g me keeper.term until p s seen fresh)
+    of_cases x g me until s (inr holds) fresh = holds_unrefused x g me keeper.term until p s holds fresh
+
+    unrefused : (x : Asked) (said : Answer) (past : List Deed) → (made : Made config ss c j keeper (wants.Ask a (calls.WaitFor p timeout)) (deeds.Asked x) past)
+        → KeptCall config ss c j keeper x a (calls.WaitFor p timeout) made.place said → refusal_to x said ≡ None
+    unrefused x said past made kept =
+        let call = kept.is_kept in
+        let at = call.answered.place in
+        let me = call.answered.me in
+        let w : World = world_at config ss at in
+        let until : ℕ = (world_at config ss made.place).clock + timeout in
+        let comes : ComesTo config ss c keeper.term at me (calls.WaitFor p until) = subst (λ (f : Call). ComesTo config ss c keeper.term at me f) kept.call_is call.comes in
+        let answers : answer_to w.group me keeper.term (calls.WaitFor p until) (w.tablets me.alias) ≡ said =
+        ap (λ (f : Call). answer_to w.group me keeper.term f (w.tablets me.alias)) (sym kept.call_is) ∙ call.says in
+        let fresh : IsFresh (answer_to w.group me keeper.term (calls.WaitFor p until) (w.tablets me.alias)) =
+        λ v stale. never_stale config ss c j keeper x a (calls.WaitFor p timeout) made.place said v kept (sym answers ∙ stale) in
+        subst (λ (y : Answer). refusal_to x y ≡ None) answers
+        (of_cases x w.group me until (w.tablets me.alias) (waits_until config ss c keeper.term at until me p keeper.run comes (in_time at until me comes)) fresh)
+
+-- it follows, and comes to hold the position
+abbrev pub follows_on : ℕ → Alias → Position → Answer → Course (Unit {0})
+follows_on timeout a p x = walked (following x) >> needs a (calls.WaitFor p timeout) >>= λ y. walked (holding y)
+
+pub follows_goes : (made : Doing) (span : List Deed) (F H : List Deed → Type 0) (a : Alias) (p : Position) (timeout : ℕ) (x : Answer) → Stays F
+    → ((b : List Deed) → H b → F b) → IsGranted made F a (calls.WaitFor p timeout)
+    → Goes made span (λ (y : Unit {0}). ⊤) (Same (λ y b. CaughtUp made F a p timeout b)) (Only H (follows_on timeout a p x)) (follows_on timeout a p x)
+follows_goes made span F H a p timeout x stays less grants =
+    bind_goes made span H (Answers made a waits) (AnsweredIn made F a waits) (λ y. ⊤) (Same (λ y b. CaughtUp made F a p timeout b))
+    (walked (following x) >> needs a waits) (λ y. walked (holding y))
+    (bind_goes made span H (λ (y : Unit {0}). ⊤) (λ y b. F b) (Answers made a waits) (Same (AnsweredIn made F a waits)) (walked (following x)) (λ y. needs a waits)
+    (weaker_goes made span (λ (y : Unit {0}). ⊤) (λ y. ⊤) (λ y b. H b) (λ y b. F b) (Only H (walked (following x))) (walked (following x)) (λ y any. tt)
+    (λ y b any fact. less b fact) (pure_goes made span H (λ y. ⊤) (following x) (following_so x) (λ y any. tt)))
+    (λ y any. needs_goes made span F a waits stays grants))
+    (λ y held. weaker_goes made span (λ z. y ≡ says.Holds) (λ z. ⊤) (λ z b. AnsweredIn made F a waits y b) (λ z b. CaughtUp made F a p timeout b)
+    (Only (AnsweredIn made F a waits y) (walked (holding y))) (walked (holding y)) (λ z so. tt)
+    (λ z b so fact. (fact.0, subst (λ (v : Answer). WasAnswered made a waits v b) so fact.1))
+    (pure_goes made span (AnsweredIn made F a waits y) (λ z. y ≡ says.Holds) (holding y) (holding_so y) (λ z so. holds_is y z so)))
+  where
+    waits : Call
+    waits = calls.WaitFor p timeout

@@ -123,7 +123,7 @@ call_none c _ _ (More d e ds es one rest) h =
         (of_test (alias_eq x.alias c) x y l out more)
 
 -- a given tablet
-given_alike : (g : Group) (o : EmergencyOptions) (seen : Seen) (ds es : List Deed) (c : Alias) → Settled ds es
+pub given_alike : (g : Group) (o : EmergencyOptions) (seen : Seen) (ds es : List Deed) (c : Alias) → Settled ds es
     → is_none (refusal_of_given g o seen es c) ≡ is_none (refusal_of_given g o seen ds c)
 given_alike g o seen ds es c s =
     let hs = helds_same ds es s.later s.settled in
@@ -132,7 +132,7 @@ given_alike g o seen ds es c s =
     (refusal_of_short g (reached_by h) (tablet_of g.tablets c)))) hs)
 
 -- or the fittest
-fittest_same : (g : Group) (o : EmergencyOptions) (seen : Seen) (ds es : List Deed) (w : Held) → Settled ds es → rescuer g o seen es w None ≡ rescuer g o seen ds w None
+pub fittest_same : (g : Group) (o : EmergencyOptions) (seen : Seen) (ds es : List Deed) (w : Held) → Settled ds es → rescuer g o seen es w None ≡ rescuer g o seen ds w None
 unfolding reason_to_rescue fitness
 fittest_same g o seen ds es w s =
     ap (λ (hs : List Held). chosen (best_of (number hs) g.tablets) (flat_map (λ t. rejected t.alias (reason hs t)) g.tablets)) (helds_same ds es s.later s.settled)

@@ -188,7 +188,7 @@ fed_leads w u a from term before index x sound only here h =
 
 -- what a step does to a tablet that does not go down with it
 touched_leads : (config : Config) (w : World) (u : ℕ) (a : Alias) (e : Event) (t : TabletState) → IsSoundWorld w → IntendsOnly w u a
-    → ((k d v : ℕ) (b : Alias) (call : Call) → IsPosted w.post k (contents.Asks d v b call) → v ≤ u) → ((keep : ℕ) → e ≡ events.Crash a keep → ⊥)
+    → ((k d v : ℕ) (b : Alias) (call : Call) → IsPosted w.post k (contents.Asks d v b call) → v ≤ u) → ((keep : ℕ) → has_row (w.tablets a).log u ≡ true → e ≡ events.Crash a keep → ⊥)
     → Leads u (w.tablets a) → Touched config w a e t → Leads u t
 touched_leads config w u a _ _ sound only low up h Untouched = h
 touched_leads config w u a _ _ sound only low up h (Called k c v call me m here carries found) =
@@ -203,15 +203,16 @@ touched_leads config w u a _ _ sound only low up h (WrittenBy c s me begun found
     write_leads u (w.tablets a) (primary_term (w.tablets a).stand) me s.client s.number h
 touched_leads config w u a _ _ sound only low up h (WrittenLocal me found) =
     chosen (LeadsBy u) (is_down (w.tablets a).stand) _ _ (λ down. h) (λ not_down. own_leads u me entry_kinds.Local (w.tablets a) refl h)
-touched_leads config w u a _ _ sound only low up h (Crashed keep) = absurd (up keep refl)
+touched_leads config w u a _ _ sound only low up h (Crashed keep) = λ row. absurd (up keep row refl)
 touched_leads config w u a _ _ sound only low up h Restarted =
     chosen (LeadsBy u) (is_down (w.tablets a).stand) _ _ (λ down row. absurd (false≢true (sym (ap (λ (s : Stand). is_down s) (h row)) ∙ down))) (λ not_down. h)
 
 -- ---- while the lock is kept
 
--- the tablet does not go down between these two steps
-abbrev pub StaysUp : List Step → ℕ → ℕ → Alias → Type 0
-StaysUp ss i j a = (k keep : ℕ) (s : Step) → i < k → k < j → slice_get ss k ≡ Some s → s.event ≡ events.Crash a keep → ⊥
+-- the tablet does not go down between these two steps, once it has the row of the term
+abbrev pub StaysUp : Config → List Step → ℕ → ℕ → ℕ → Alias → Type 0
+StaysUp config ss u i j a = (k keep : ℕ) (s : Step) → i < k → k < j → has_row ((world_at config ss k).tablets a).log u ≡ true → slice_get ss k ≡ Some s
+    → s.event ≡ events.Crash a keep → ⊥
 
 -- a tablet that has heard of no later term than n has no row of one
 no_row_yet : (s : TabletState) (u n : ℕ) → IsSound s → s.seen ≤ n → u ≡ n + 1 → has_row s.log u ≡ true → ⊥
@@ -255,7 +256,7 @@ calls_within config ss c u i j k run kept le within n d v b call posted = of_tes
 
 -- Step i takes the lock, which is kept up to step j. The tablet that its term intends leads in the term from the first moment at which it has its row,
 -- as long as it does not go down.
-pub stays_primary : (config : Config) (ss : List Step) (c u i j : ℕ) (a : Alias) → IsRun config ss → IsKept ss c u i j → StaysUp ss i j a
+pub stays_primary : (config : Config) (ss : List Step) (c u i j : ℕ) (a : Alias) → IsRun config ss → IsKept ss c u i j → StaysUp config ss u i j a
     → IsIntended (world_at config ss j).topo u a → (k : ℕ) → i ≤ k → k ≤ j → Leads u ((world_at config ss k).tablets a)
 stays_primary config ss c u i j a run kept up intended zero le within =
     let same : i ≡ 0 = omega (arith, le) in
@@ -263,11 +264,11 @@ stays_primary config ss c u i j a run kept up intended zero le within =
 stays_primary config ss c u i j a run kept up intended (suc k) le within =
     of_test (nat_lt k i) refl (λ l. stays_primary config ss c u i j a run kept up intended k l (omega (arith, within)))
   where
-    stays_up : (s : Step) → slice_get ss k ≡ Some s → i ≤ k → (keep : ℕ) → s.event ≡ events.Crash a keep → ⊥
-    stays_up s here l keep is = of_order (nat_lt i k) refl
+    stays_up : (s : Step) → slice_get ss k ≡ Some s → i ≤ k → (keep : ℕ) → has_row ((world_at config ss k).tablets a).log u ≡ true → s.event ≡ events.Crash a keep → ⊥
+    stays_up s here l keep row is = of_order (nat_lt i k) refl
       where
         of_order : (b : Bool) → nat_lt i k ≡ b → ⊥
-        of_order true e = up k keep s (let less : i < k = grind (arith, nat_tests) in less) (omega (arith, within)) here is
+        of_order true e = up k keep s (let less : i < k = grind (arith, nat_tests) in less) (omega (arith, within)) row here is
         of_order false e =
             let same : i ≡ k = (let more : k ≤ i = grind (arith, nat_tests) in omega (arith, more, l)) in
             let taken : Some s ≡ Some (record { event = events.Take c; reply = replies.Term u }) = sym here ∙ sym (ap (λ (n : ℕ). slice_get ss n) same) ∙ kept.taken in

@@ -1,11 +1,12 @@
 -- A command that takes the lock, and keeps to its course, takes it with the first thing that it does: no Take of its is refused before. The lock is that of
 -- PlannedReparentShard (Vitess manual).
-use Rattle.std.proofs.Common.{◌≡◌, refl, ap, sym, ◌∙◌, arith, ℕ, zero, suc, ◌<◌, Bool, true, false, nat_lt, cond, ◌==◌, List, [], ◌∷◌, ◌++◌, take, Option, Some, None, Result, Ok, Err}
+use Rattle.std.proofs.Common.{◌≡◌, refl, ap, sym, subst, ◌∙◌, arith, ℕ, zero, suc, ◌<◌, Bool, true, false, nat_lt, cond, ◌==◌, List, [], ◌∷◌, ◌++◌, take, Option, Some, None, Result, Ok, Err}
 use Rattle.std.proofs.lemmas.Bool.Decides.{nat_tests}
 use Rattle.std.specs.List.{slice_get, filter_map, cons_option}
 use Rattle.topo_lock.specs.declared.lock.LockTaken.{LockTaken}
 use Rattle.shard_calls.specs.declared.command.Command.{Command}
 use Rattle.shard_calls.specs.declared.ending.CommandAnswer.{CommandAnswer}
+use Rattle.shard_calls.specs.declared.event.Event.{Event}
 use Rattle.shard_calls.specs.declared.event.Event.TheVariants as events
 use Rattle.shard_calls.specs.declared.event.Reply.TheVariants as replies
 use Rattle.shard_calls.specs.declared.event.Step.{Step}
@@ -17,10 +18,17 @@ use Rattle.shard_calls.specs.declared.state.Act.{Act}
 use Rattle.shard_calls.specs.declared.state.Act.TheVariants as acts
 use Rattle.shard_calls.specs.declared.state.CommandState.{CommandState}
 use Rattle.shard_calls.specs.declared.state.Wrote.{Wrote}
-use Rattle.shard_calls.specs.Answered.{act_of, acts_of}
+use Rattle.shard_calls.specs.declared.event.Reply.{Reply}
+use Rattle.topo_lock.specs.Topology.{answer_take}
+use Rattle.shard_calls.specs.Answered.{act_of, acts_of, taken_by_reply}
+use Rattle.shard_calls.specs.Table.{after, answer, Met}
+use Rattle.shard_calls.proofs.RunLemmas.{next_world, step_along}
+use Rattle.completeness.proofs.KeptLemmas.{has_lock, taken_now}
+use Rattle.completeness.proofs.TermLemmas.{TermIs, takes_term}
+use Rattle.courses.specs.declared.want.Want.TheVariants as wants
 use Rattle.shard_calls.specs.Spans.{asked_by, deed_if_asked, deed_of, span_in, term_wrote, written_in}
 use Rattle.shard_calls.specs.Writes.{is_write}
-use Rattle.shard_calls.specs.World.{Config, World, group_of, numbered}
+use Rattle.shard_calls.specs.World.{Config, World, group_of, numbered, opening}
 use Rattle.shard_calls.specs.Promotions.{world_at}
 use Rattle.shard_base.specs.Options.{◌>>=◌}
 use Rattle.courses.specs.declared.demands.Demand.TheVariants as demands
@@ -29,7 +37,7 @@ use Rattle.courses.specs.Course.{demand}
 use Rattle.courses.specs.Walks.{Course}
 use Rattle.recovery_loop.specs.Course.{course_of}
 use Rattle.planned.specs.Follows.{maker_of}
-use Rattle.completeness.proofs.CallLemmas.{acts_so_far}
+use Rattle.completeness.proofs.CallLemmas.{acts_so_far, term_later}
 use Rattle.completeness.proofs.DecidedLemmas.{FollowsAt, all_posted, open_is, own_in}
 use Rattle.completeness.proofs.LaterLemmas.{Later, Nothing, More}
 use Rattle.completeness.proofs.MadeCalls.{Keeper, Made}
@@ -64,7 +72,7 @@ map_front {A} {B} f (z ∷ xs) ys x y gives = let rest = map_front f xs ys x y g
 
 -- ---- the act of a Take
 
-took_act : (post : List Message) (u : ℕ) (act : Act) (reply : Result ℕ LockTaken) → deed_of post u act ≡ Some (deeds.Took reply) → act ≡ acts.Took reply
+pub took_act : (post : List Message) (u : ℕ) (act : Act) (reply : Result ℕ LockTaken) → deed_of post u act ≡ Some (deeds.Took reply) → act ≡ acts.Took reply
 took_act post u (acts.Took other) reply h =
     let same : other ≡ reply = (let both : Some (deeds.Took other) ≡ Some (deeds.Took reply) = h in cc) in ap (λ (r : Result ℕ LockTaken). acts.Took r) same
 took_act post u (acts.Read other) reply h = absurd (let wrong : Some (deeds.Read other) ≡ Some (deeds.Took reply) = h in cc)
@@ -168,3 +176,36 @@ not_taken_first config ss c j keeper course want held follows not_write is_cours
     of_order true d e f = earlier_than (grind (arith, nat_tests))
     of_order false true e f = later_than (grind (arith, nat_tests))
     of_order false false e f = at_once (grind (arith, nat_tests))
+
+-- ---- the term that it took
+
+taken_by : (r : Reply) (t : ℕ) → taken_by_reply r ≡ Some (acts.Took (Ok t)) → r ≡ replies.Term t
+taken_by (replies.Term v) t h = let same : v ≡ t = (let both : Some (acts.Took (Ok v)) ≡ Some (acts.Took (Ok t)) = h in cc) in ap (λ (n : ℕ). replies.Term n) same
+taken_by (replies.Taken v by) t h = absurd (let wrong : Some (acts.Took (Err (record { term = v; actor = by }))) ≡ Some (acts.Took (Ok t)) = h in cc)
+taken_by _ t h = absurd (let wrong : None ≡ Some (acts.Took (Ok t)) = h in cc)
+
+-- the term that it took is that of the lock which it keeps
+pub taken_term : (config : Config) (ss : List Step) (c j : ℕ) (keeper : Keeper config ss c j) (t : ℕ) (past : List Deed)
+    → Made config ss c j keeper wants.Take (deeds.Took (Ok t)) past → t ≡ keeper.term
+taken_term config ss c j keeper t past made =
+    let w : World = world_at config ss made.place in
+    let step = step_along config (opening config) ss made.place made.step keeper.run made.at in
+    let act = took_act (world_at config ss j).post (term_wrote keeper.state.wrote) made.act (Ok t) made.deed in
+    let own : act_of c (events.Take c) made.step.reply ≡ taken_by_reply made.step.reply =
+    ap (λ (b : Bool). cond b (taken_by_reply made.step.reply) None) (same_number c) in
+    let did : taken_by_reply made.step.reply ≡ Some (acts.Took (Ok t)) =
+    sym own ∙ ap (λ (e : Event). act_of c e made.step.reply) (sym made.event) ∙ made.did ∙ ap (λ (a : Act). Some a) act in
+    let met : Met config w (events.Take c) = subst (λ (e : Event). Met config w e) made.event step.met in
+    let answered : replies.Term t ≡ answer config w (events.Take c) =
+    sym (taken_by made.step.reply t did) ∙ step.answered ∙ ap (λ (e : Event). answer config w e) made.event in
+    let takes = takes_term config w c t met (taken_now (answer_take w.topo) t answered) in
+    let here : TermIs (world_at config ss (suc made.place)) c t =
+    subst (λ (v : World). TermIs v c t) (sym (next_world config (opening config) ss made.place made.step made.at ∙ ap (λ (e : Event). after config w e) made.event)) takes.own in
+    let less = made.earlier in
+    let later = term_later config ss c t (suc made.place) j keeper.run (omega (arith, less)) here in
+    let has = has_lock config ss c keeper.term keeper.taken j keeper.run keeper.kept j keeper.kept.later (omega arith) in
+    let same : t ≡ keeper.term = (let some : Some t ≡ Some keeper.term = sym later ∙ has.own in cc) in
+    same
+  where
+    same_number : (n : ℕ) → (n == n) ≡ true
+    same_number n = grind (arith, nat_tests)

@@ -2,3 +2,4 @@ pub mod Kept
 pub mod Refused
 pub mod Following
 pub mod Planned
+pub mod Emergency
