@@ -1,5 +1,5 @@
 -- What is due to tablets, or to a command that some actor has open, is all that is due.
-use Rattle.std.proofs.Common.{◌≡◌, ℕ, ◌+◌, ◌≤◌, min, Bool, true, false, not, ◌&&◌, ◌||◌, ◌==◌, is_none, List, [], ◌∷◌, Option, Some, None, is_some, refl, ap, sym, ◌∙◌, cond, arith}
+use Rattle.std.proofs.Common.{◌≡◌, ℕ, ◌+◌, ◌≤◌, min, Bool, true, false, not, ◌&&◌, ◌||◌, ◌==◌, is_none, List, [], ◌∷◌, Option, Some, None, refl, ap, sym, ◌∙◌, cond, arith}
 use Rattle.std.specs.List.{list_any, position_from}
 use Rattle.shard_names.proofs.TabletLemmas.{both_right}
 use Rattle.shard_calls.specs.declared.post.Content.{Content}

@@ -4,5 +4,6 @@ pub mod WayLemmas
 pub mod InboxLemmas
 pub mod RowLemmas
 pub mod FeedLemmas
+pub mod LackLemmas
 pub mod AddressedLemmas
 pub mod OfferLemmas

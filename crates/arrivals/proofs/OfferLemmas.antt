@@ -1,10 +1,9 @@
 -- Who may be offered an entry: nobody who waits behind the end of the longest log that is sent.
-use Rattle.std.proofs.Common.{◌≡◌, ℕ, zero, suc, ◌+◌, ◌-◌, ◌<◌, ◌≤◌, max, ◌⊎◌, inl, inr, Bool, true, false, not, ◌&&◌, nat_lt, nat_le, List, [], ◌∷◌, map, drop, length, Option, Some, None, is_some, refl, ap, sym, ◌∙◌, cond, arith}
+use Rattle.std.proofs.Common.{◌≡◌, ℕ, ◌-◌, ◌<◌, ◌≤◌, max, ◌⊎◌, inl, inr, Bool, true, false, not, ◌&&◌, nat_lt, nat_le, List, [], ◌∷◌, map, length, Option, Some, None, is_some, refl, ap, sym, ◌∙◌, cond, arith}
 use Rattle.std.proofs.lemmas.Bool.Decides.{nat_tests}
 use Rattle.std.specs.List.{find}
 use Rattle.shard_base.specs.Options.{◌>>=◌, only_if}
 use Rattle.shard_names.specs.declared.alias.Alias.{Alias}
-use Rattle.shard_names.specs.declared.tablet.Tablet.{Tablet}
 use Rattle.shard_names.specs.Tablets.{alias_eq}
 use Rattle.shard_names.proofs.TabletLemmas.{both_left, alias_eq_is, alias_eq_itself}
 use Rattle.gtid_sets.specs.declared.entry.Entry.{Entry}

@@ -1,7 +1,6 @@
 -- Walks over lists of numbers, and what is found on them.
-use Rattle.std.proofs.Common.{◌≡◌, ℕ, zero, suc, ◌+◌, ◌≤◌, min, Bool, true, false, ◌&&◌, ◌||◌, List, [], ◌∷◌, drop, length, Option, Some, None, refl, ap, ◌∙◌, cond, is_some, arith}
+use Rattle.std.proofs.Common.{◌≡◌, ℕ, zero, suc, ◌+◌, ◌≤◌, Bool, true, false, ◌&&◌, ◌||◌, List, [], ◌∷◌, drop, length, Option, Some, None, refl, ap, ◌∙◌, cond, is_some, arith}
 use Rattle.std.specs.List.{slice_get, find, list_any, list_all, position_from}
-use Rattle.std.specs.Option.{MatchOption}
 use Rattle.shard_names.proofs.TabletLemmas.{both_left, both_right}
 use Rattle.shard_calls.specs.Messages.{passes}
 use Rattle.shard_calls.specs.World.{numbered}

@@ -1,6 +1,6 @@
 -- Who may be offered an entry, as a look over the tablets finds it: a source sends its binary log from the place on that a replica has come to, so
 -- who waits behind the end of the longest log is offered nothing (MySQL 8.0 manual, Replication).
-use Rattle.std.specs.Prelude.{ℕ, Bool, true, false, ◌&&◌, nat_le, List, map, length, Option, Some, None, is_some, if◌then◌else◌}
+use Rattle.std.specs.Prelude.{ℕ, Bool, true, false, ◌&&◌, nat_le, List, map, length, Option, Some, is_some, if◌then◌else◌}
 use Rattle.std.specs.List.{find}
 use Rattle.shard_base.specs.Options.{◌>>=◌}
 use Rattle.shard_names.specs.declared.alias.Alias.{Alias}

@@ -182,9 +182,9 @@ fn offer_by_stand(fields: &Fields, manager: &Manager, replica: &Alias) -> Option
 /// The entry that a replica may be offered, as its source sends it: the first that it needs, if the source sends its log, the link is
 /// not cut, and none is on its way.
 ///
-/// Where the source has no entry that the replica waits for, it costs the steps to the two tablets. Else it costs a few steps for each tablet, for
-/// each message that waits on its way to the replica, and for each entry of the source's log from the one on that the replica waits for up to
-/// the one that it needs.
+/// Where the source has no entry that the replica waits for, it costs the steps to the two tablets. Else it costs a few steps for each tablet and for
+/// each message that waits on its way to the replica, and what `feed` costs: little where the entry is near the end of the source's log, or near the
+/// one that the replica waits for.
 pub fn offer_to(fields: &Fields, replica: &Alias) -> Option<Content>
     requires group { AreOfGroup (data_of fields.now) }
     requires known { KnowsTablets (data_of fields.now) }
