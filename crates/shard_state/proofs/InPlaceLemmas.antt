@@ -1,7 +1,9 @@
 -- What is looked up in place is what the definitions say.
-use Rattle.std.proofs.Common.{◌≡◌, ℕ, ◌+◌, ◌<◌, Bool, true, false, not, ◌&&◌, ◌||◌, ◌==◌, cond, max, List, [], ◌∷◌, ◌++◌, map, take, get_or, length, Option, Some, None, refl, ap, sym, ◌∙◌, arith, append-nil}
+use Rattle.std.proofs.Common.{◌≡◌, ℕ, ◌+◌, ◌<◌, Bool, true, false, not, ◌&&◌, ◌||◌, ◌==◌, cond, max, List, [], ◌∷◌, ◌++◌, map, reverse, take, get_or, length, Option, Some, None, refl, ap, sym, ◌∙◌, arith, append-nil}
 use Rattle.std.specs.List.{cons_option, filter, filter_map, find, list_all}
-use Rattle.std.proofs.lemmas.List.{take_more}
+use Rattle.std.specs.Option.{option_or}
+use Rattle.std.proofs.lemmas.List.{reverse-append, take_more}
+use Rattle.std.proofs.lemmas.List.Folds.{find-append}
 use Rattle.std.proofs.lemmas.List.Elements.{filter_map-append}
 use Rattle.shard_base.specs.Options.{◌>>=◌}
 use Rattle.shard_names.specs.declared.alias.Alias.{Alias}
@@ -22,7 +24,7 @@ use Rattle.shard_calls.specs.Outcomes.{sending_of, sendings}
 use Rattle.shard_state.specs.declared.evidence.Leave.{Leave}
 use Rattle.shard_state.specs.declared.evidence.Leave.TheVariants as leaves
 use Rattle.shard_state.specs.State.{tablets_of}
-use Rattle.shard_state.specs.InPlace.{answer_of, answered_by, asks, covers_leading, first_answer, greatest_stopped, held_by, is_asked_by, last_from, leads_all, newest_or_zero, passes, stopped_by, winner_among, with_deed}
+use Rattle.shard_state.specs.InPlace.{answer_of, answered_by, asks, covers_leading, first_answer, greatest_stopped, held_by, is_asked_by, leads_all, newest_or_zero, passes, stopped_by, winner_among, with_deed}
 use Rattle.tablet_manager.specs.Managed.{Managed}
 
 -- ---- the first call of a kind
@@ -67,27 +69,30 @@ demote_held post acts u a o is = ap (λ (x : Option Answer). held_by (if_demoted
 
 -- ---- the last intent of an earlier term
 
-after_one : (test : Intent → Bool) (y i : Intent) (is : List Intent) (t : Bool) → ((z : Intent) → last_from test (Some z) is ≡ last_of (z ∷ filter test is))
-    → last_from test (cond t (Some i) (Some y)) is ≡ last_of (y ∷ cond t (i ∷ filter test is) (filter test is))
-after_one test y i is true rest = rest i
-after_one test y i is false rest = rest y
+last_is_some : {A : Type 0} (xs : List A) (x : A) (o : Option A) → option_or (last_of (x ∷ xs)) o ≡ last_of (x ∷ xs)
+last_is_some [] x o = refl
+last_is_some (y ∷ xs) x o = last_is_some xs y o
 
-after_found : (test : Intent → Bool) (is : List Intent) (y : Intent) → last_from test (Some y) is ≡ last_of (y ∷ filter test is)
-after_found test [] y = refl
-after_found test (i ∷ is) y = after_one test y i is (test i) (after_found test is)
+or_none : {A : Type 0} (o : Option A) → option_or o None ≡ o
+or_none None = refl
+or_none (Some x) = refl
 
-none_one : (test : Intent → Bool) (i : Intent) (is : List Intent) (t : Bool) → last_from test None is ≡ last_of (filter test is)
-    → last_from test (cond t (Some i) None) is ≡ last_of (cond t (i ∷ filter test is) (filter test is))
-none_one test i is true rest = after_found test is i
-none_one test i is false rest = rest
+first_behind : {A : Type 0} (x : A) (xs : List A) → option_or (last_of xs) (Some x) ≡ last_of (x ∷ xs)
+first_behind x [] = refl
+first_behind x (y ∷ xs) = last_is_some xs y (Some x)
 
-pub last_found : (test : Intent → Bool) (is : List Intent) → last_from test None is ≡ last_of (filter test is)
-last_found test [] = refl
-last_found test (i ∷ is) = none_one test i is (test i) (last_found test is)
+or_first : {A : Type 0} (x : A) (xs : List A) (t : Bool) → option_or (last_of xs) (cond t (Some x) None) ≡ last_of (cond t (x ∷ xs) xs)
+or_first x xs true = first_behind x xs
+or_first x xs false = or_none (last_of xs)
 
-pub last_at_end : (test : Intent → Bool) (found : Option Intent) (is : List Intent) → length is ≡ 0 → last_from test found is ≡ found
-last_at_end test found [] e = refl
-last_at_end test found (i ∷ is) e = absurd (omega (arith, e))
+-- the first from the end on is the last
+pub last_back : (test : Intent → Bool) (is : List Intent) → find test (reverse is) ≡ last_of (filter test is)
+last_back test [] = refl
+last_back test (i ∷ is) =
+    ap (λ (js : List Intent). find test js) (reverse-append (i ∷ []) is)
+    ∙ find-append test (reverse is) (i ∷ [])
+    ∙ ap (λ (o : Option Intent). option_or o (cond (test i) (Some i) None)) (last_back test is)
+    ∙ or_first i (filter test is) (test i)
 
 -- ---- lists made of others
 

@@ -1,5 +1,5 @@
 -- What a command's calls came to, and what a promotion rests on, as they are looked up in place.
-use Rattle.std.specs.Prelude.{ℕ, Bool, false, not, ◌&&◌, ◌||◌, ◌==◌, List, [], ◌∷◌, ◌++◌, map, Option, Some, None, if◌then◌else◌}
+use Rattle.std.specs.Prelude.{ℕ, Bool, false, not, ◌&&◌, ◌||◌, ◌==◌, List, [], ◌∷◌, ◌++◌, map, Option, Some, None}
 use Rattle.std.specs.List.{find, list_all}
 use Rattle.shard_base.specs.Options.{◌>>=◌}
 use Rattle.shard_names.specs.declared.alias.Alias.{Alias}
@@ -10,7 +10,6 @@ use Rattle.durability.specs.Sets.{TabletSet}
 use Rattle.durability.specs.Counting.{is_revoked}
 use Rattle.gtid_sets.specs.Position.{Position, covers, greatest}
 use Rattle.gtid_sets.specs.declared.held.Held.{Held}
-use Rattle.topo_lock.specs.declared.intent.Intent.{Intent}
 use Rattle.shard_calls.specs.declared.answer.Answer.{Answer}
 use Rattle.shard_calls.specs.declared.call.Call.{Call}
 use Rattle.shard_calls.specs.declared.post.Content.{Content}
@@ -92,11 +91,6 @@ abbrev pub held_by : (Answer → Option Held) → Option Answer → Option Held
 held_by f answer = answer >>= f
 
 -- ---- the last intent of an earlier term
-
--- the last of the intents that pass, or else the one found before them
-abbrev pub last_from : (Intent → Bool) → Option Intent → List Intent → Option Intent
-last_from test found [] = found
-last_from test found (i ∷ is) = last_from test (if test i then Some i else found) is
 
 -- ---- who stopped
 

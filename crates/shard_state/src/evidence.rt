@@ -1,7 +1,7 @@
 //! What a promotion rests on: that nothing was intended before, that the last intended tablet gave up its place, or that a set of tablets
 //! stopped that meets whatever could still be told.
 
-ghost use Rattle.std.specs.Prelude.{◌≡◌, ◌||◌, ◌&&◌, not, nat_lt, length, filter, is_some};
+ghost use Rattle.std.specs.Prelude.{◌≡◌, ◌||◌, ◌&&◌, not, nat_lt, length, filter, reverse, is_some};
 ghost use Rattle.std.specs.List.{find, list_all};
 ghost use Rattle.std.specs.Option.{option_copied};
 ghost use Rattle.gtid_sets.specs.StoredPosition.{position_eq};
@@ -136,19 +136,18 @@ fn is_same(a: &GtidSet, b: &GtidSet) -> bool
     *a == *b
 }
 
-/// The last intent of an earlier term.
+/// The first intent of an earlier term from the end on.
+fn find_before(intents: &[Intent], term: u64) -> Option<&Intent>
+    ensures { option_copied result ≡ find (λ i. nat_lt i.term term) (reverse intents.now) }
+{
+    intents.iter().rev().find(|intent| intent.term < term)
+}
+
+/// The last intent of an earlier term. It costs the steps from the last intent back to it.
 fn last_before(intents: &[Intent], term: u64) -> Option<Intent>
     ensures { result ≡ last_of (filter (λ i. nat_lt i.term term) intents.now) }
 {
-    let mut rest = intents;
-    let mut found = None;
-    while let Some((intent, more)) = rest.split_first() {
-        if intent.term < term {
-            found = Some(*intent);
-        }
-        rest = more;
-    }
-    found
+    find_before(intents, term).copied()
 }
 
 /// It gave up its place with nothing newer than the row of this term, and had this position.
