@@ -1,8 +1,7 @@
 //! The shard lock and what the topology server is asked: take, read, intend, record, drain, release, lapse.
 
 ghost use Rattle.std.specs.Prelude.{◌≡◌, ◌<◌, ◌-◌, ◌^◌, true, Err, OnOk, OnErr, IfOk};
-ghost use Rattle.std.specs.Option.{option_copied};
-ghost use Rattle.topo_lock.specs.Topology.{is_held_in, intent_of, answer_take, answer_intend, after_release};
+ghost use Rattle.topo_lock.specs.Topology.{is_held_in, answer_take, answer_intend, after_release};
 ghost use Rattle.shard_calls.specs.World.{changed_at, with_act};
 ghost use Rattle.shard_calls.specs.Locks.{by_term, drained_act, intended_act, recorded_act, seen_of, topo_reply};
 ghost use Rattle.shard_calls.specs.Table.{meets};
@@ -19,7 +18,7 @@ use shard_calls::{Act, Reply, Seen};
 use shard_names::Alias;
 use shard_state::{Fields, open_command, term_of};
 use std::alloc::Global;
-use topo_lock::{Holder, Intent, LockTaken, Topo, TopoFault};
+use topo_lock::{Holder, LockTaken, Topo, TopoFault};
 
 /// What one who asks for the lock is answered.
 fn answer_take(topo: &Topo) -> Result<u64, LockTaken>
@@ -92,19 +91,12 @@ pub(crate) fn read(fields: &mut Fields, command: u64) -> Result<Reply, OutOfMemo
     Ok(Reply::Read(told))
 }
 
-/// The intent of this term.
-fn intent_of(topo: &Topo, term: u64) -> Option<&Intent>
-    ensures { option_copied result ≡ intent_of topo.now.topology term }
-{
-    topo.intents().iter().find(|intent| intent.term == term)
-}
-
 /// What one who intends the tablet in this term is answered.
 fn answer_intend(topo: &Topo, term: u64, alias: &Alias) -> Result<(), TopoFault>
     ensures { result ≡ answer_intend topo.now.topology term alias.now }
 {
     topo.check_lock(term)?;
-    match intent_of(topo, term) {
+    match topo.intent_of(term) {
         Some(intent) if intent.alias != *alias => Err(TopoFault::IntentStands {
             alias: intent.alias,
         }),

@@ -1,8 +1,7 @@
 //! The lock, the intents and the record: what a command may do with them, and what it is answered.
 
-ghost use Rattle.std.specs.Prelude.{◌≡◌, ◌<◌, ◌-◌, ◌^◌, nat_eq, nat_lt, false};
-ghost use Rattle.std.specs.List.{find, list_any};
-ghost use Rattle.std.specs.Option.{option_copied};
+ghost use Rattle.std.specs.Prelude.{◌≡◌, ◌<◌, ◌-◌, ◌^◌, nat_lt, false};
+ghost use Rattle.std.specs.List.{list_any};
 ghost use Rattle.shard_calls.specs.World.{numbered, if_open};
 ghost use Rattle.shard_calls.specs.Evidence.{is_alias_of, intends, is_first};
 ghost use Rattle.shard_calls.specs.Locks.{took_nothing, by_term, may_record};
@@ -42,27 +41,11 @@ pub fn may_record(topo: &Topo, alias: &Alias, term: Option<u64>) -> bool
     }
 }
 
-/// The intent of this term.
-fn intent_of(intents: &[Intent], term: u64) -> Option<&Intent>
-    ensures { option_copied result ≡ find (λ i. nat_eq i.term term) intents.now }
-{
-    intents.iter().find(|intent| intent.term == term)
-}
-
-fn is_intended(intents: &[Intent], term: u64, alias: &Alias) -> bool
-    ensures { result ≡ is_alias_of (find (λ i. nat_eq i.term term) intents.now) alias.now }
-{
-    match intent_of(intents, term) {
-        Some(intent) => intent.alias == *alias, // of the term
-        None => false,
-    }
-}
-
-/// Whether the term intends the tablet. It costs at most a walk over the intents.
+/// Whether the term intends the tablet. It costs the steps from the last intent back to that of the term.
 pub fn intends(topo: &Topo, term: u64, alias: &Alias) -> bool
     ensures { result ≡ intends topo.now.topology term alias.now }
 {
-    is_intended(topo.intents(), term, alias)
+    is_alias_of(&topo.intent_of(term), alias)
 }
 
 fn has_earlier(intents: &[Intent], term: u64) -> bool

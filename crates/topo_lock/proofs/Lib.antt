@@ -1,4 +1,5 @@
 pub mod IntentLemmas
+pub mod BackLemmas
 pub mod MarkLemmas
 pub mod MoveLemmas
 pub mod AnswerLemmas

@@ -1,10 +1,11 @@
-ghost use Rattle.std.specs.Prelude.{◌≡◌, ◌<◌, ◌≤◌, ◌+◌, ◌-◌, ◌^◌, ◌⊎◌, ◌↔◌, nat_eq, true, false, IsTrue, IsErr, IsSome, IfOk, OnOk, OnErr, length};
+ghost use Rattle.std.specs.Prelude.{◌≡◌, ◌<◌, ◌≤◌, ◌+◌, ◌-◌, ◌^◌, ◌⊎◌, ◌↔◌, nat_eq, nat_le, reverse, true, false, IsTrue, IsErr, IsSome, IfOk, OnOk, OnErr, length};
 ghost use Rattle.std.specs.List.{find};
+ghost use Rattle.std.specs.Option.{option_copied};
 ghost use Rattle.shard_names.specs.Tablets.{is_among};
 ghost use Rattle.topo_lock.specs.Topology.{fresh, is_held, is_held_in, intent_of, last_intent, IntendsLast, IntendsAnother, answer_take, after_take, answer_intend, after_intend, held_or_lost, answer_record, after_record, after_release, after_lapse};
 ghost use Rattle.topo_lock.specs.Topology.{answer_drain, after_drain};
-ghost use Rattle.topo_lock.specs.State.{spare_after_intend};
-ghost use Rattle.topo_lock.specs.Laws.{TermsRise, TermsWithin};
+ghost use Rattle.topo_lock.specs.State.{if_of_term, spare_after_intend};
+ghost use Rattle.topo_lock.specs.Laws.{TermsRise};
 
 use crate::mark::put_mark;
 use crate::{Holder, Intent, LockTaken, Record, TopoFault};
@@ -38,15 +39,29 @@ impl Model for Topo {
     ghost invariant = { IsKept };
 }
 
-/// What a term intends, if no intent is of a later term.
-#[tactic(auto, using(crate::proofs::IntentLemmas::find_last, crate::proofs::IntentLemmas::last_place))]
+/// The first intent from the end on that is of no later term.
+fn find_within(intents: &[Intent], term: u64) -> Option<&Intent>
+    ensures { option_copied result ≡ find (λ i. nat_le i.term term) (reverse intents.now) }
+{
+    intents.iter().rev().find(|intent| intent.term <= term)
+}
+
+/// The intent, if it is of the term.
+fn if_of_term(intent: Option<Intent>, term: u64) -> Option<Intent>
+    ensures { result ≡ if_of_term term intent }
+{
+    match intent {
+        Some(intent) if intent.term == term => Some(intent),
+        _ => None,
+    }
+}
+
+/// What a term intends. It costs the steps from the last intent back to it.
 fn find_intent(intents: &[Intent], term: u64) -> Option<Intent>
     requires rise { TermsRise intents.now }
-    requires within { TermsWithin term intents.now }
     ensures { result ≡ find (λ i. nat_eq i.term term) intents.now }
 {
-    let last = intents.last()?;
-    if last.term == term { Some(*last) } else { None }
+    if_of_term(find_within(intents, term).copied(), term)
 }
 
 impl Topo {
@@ -172,9 +187,8 @@ impl Topo {
         Ok(self.term)
     }
 
-    /// What the term of the lock intends.
-    fn held_intent(&self, term: u64) -> Option<Intent>
-        requires { is_held_in self.now.topology term ≡ true }
+    /// What a term intends. It costs the steps from the last intent back to that of the term.
+    pub fn intent_of(&self, term: u64) -> Option<Intent>
         ensures { result ≡ intent_of self.now.topology term }
     {
         find_intent(&self.intents, term)
@@ -193,7 +207,7 @@ impl Topo {
         ensures leaves { self.new ≡ record self.old { topology = after_intend self.old.topology term alias.now; spare = spare_after_intend self.old term } }
     {
         self.check_lock(term)?;
-        if let Some(standing) = self.held_intent(term) {
+        if let Some(standing) = self.intent_of(term) {
             if standing.alias == *alias {
                 return Ok(());
             }
