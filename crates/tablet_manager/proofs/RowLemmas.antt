@@ -38,6 +38,13 @@ by_term (Some t) term above = grind (arith, nat_tests)
 pub not_row : (e : Entry) (term : ℕ) → row_or_zero e < term → is_row_of term e ≡ false
 not_row e term above = by_term (row_term e.kind) term above
 
+-- no row is of a later term than the newest
+pub no_row_above : (log : List Entry) (term : ℕ) → newest_row log < term → has_row log term ≡ false
+no_row_above [] term above = refl
+no_row_above (e ∷ log) term above =
+    let first : is_row_of term e ≡ false = not_row e term (let low : row_or_zero e < term = grind arith in low) in
+    rw first (no_row_above log term (let low : newest_row log < term = grind arith in low))
+
 and_false : (a b : Bool) → a ≡ false → (a && b) ≡ false
 and_false true b h = absurd (cc)
 and_false false b h = refl

@@ -1,4 +1,4 @@
-ghost use Rattle.std.specs.Prelude.{◌≡◌, ◌<◌, ◌-◌, ◌^◌, [], ◌∷◌, ◌++◌, nat_eq, position, vec_len, vec_capacity, OnOk, OnErr, IfOk};
+ghost use Rattle.std.specs.Prelude.{◌≡◌, ◌<◌, ◌-◌, ◌^◌, [], ◌∷◌, ◌++◌, nat_eq, position, reverse, vec_len, vec_capacity, OnOk, OnErr, IfOk};
 ghost use Rattle.gtid_sets.specs.Position.{with_gtid, minus};
 ghost use Rattle.gtid_sets.specs.Logs.{position_of, holds, newest_row, row_or_zero, is_row_of, has_row, rows_of, place_of_row};
 ghost use Rattle.std.specs.List.{list_any};
@@ -83,11 +83,11 @@ fn place_after(newest: u64, at: Option<u64>, count: u64, kind: &Kind) -> Option<
     }
 }
 
-/// Whether the term is one of these.
+/// Whether the term is one of these. It is looked for from the end.
 fn is_among(terms: &[u64], term: u64) -> bool
-    ensures { result ≡ list_any (λ t. nat_eq t term) terms.now }
+    ensures { result ≡ list_any (λ t. nat_eq t term) (reverse terms.now) }
 {
-    terms.iter().any(|of| *of == term)
+    terms.iter().rev().any(|of| *of == term)
 }
 
 /// The term of a row is one of the terms; any other entry changes nothing.
@@ -214,10 +214,13 @@ impl PlainLog {
         self.held.contains(gtid)
     }
 
-    /// Whether the log has the row of the term.
+    /// Whether the log has the row of the term. Of a term above the newest row's it is known; any other is looked for from the end.
     pub fn has_row(&self, term: u64) -> bool
         ensures { result ≡ has_row self.now.entries term }
     {
+        if term > self.newest {
+            return false;
+        }
         is_among(&self.rows, term)
     }
 
