@@ -6,8 +6,7 @@ use Rattle.std.proofs.lemmas.Bool.Decides.{nat_tests}
 use Rattle.shard_base.specs.Options.{only_if}
 use Rattle.shard_names.specs.declared.alias.Alias.{Alias}
 use Rattle.shard_names.specs.declared.tablet.Tablet.{Tablet}
-use Rattle.gtid_sets.specs.declared.entry.Kind.TheVariants as entry_kinds
-use Rattle.gtid_sets.specs.Logs.{has_row, newest_row, newest_row_names, next_gtid, position_of}
+use Rattle.gtid_sets.specs.Logs.{has_row, newest_row, newest_row_names, position_of}
 use Rattle.gtid_sets.specs.Position.{Position, covers, minus}
 use Rattle.shard_calls.specs.declared.answer.Answer.{Answer}
 use Rattle.shard_calls.specs.declared.answer.Answer.TheVariants as says
@@ -22,9 +21,8 @@ use Rattle.shard_calls.specs.declared.stand.Stand.{Stand}
 use Rattle.shard_calls.specs.declared.stand.Stand.TheVariants as stands
 use Rattle.shard_calls.specs.Refusals.{is_of_promotion, refusal_to}
 use Rattle.shard_calls.specs.Stands.{is_feeder_in, is_primary_of, is_stopped, is_replica_in, standing_of}
-use Rattle.shard_calls.specs.Tablets.{TabletState, Verdict, after_call, answer_to, demotes, in_term, is_row_told, joins, promotes, waits_for_position, waits_told, feeds}
+use Rattle.shard_calls.specs.Tablets.{TabletState, Verdict, answer_to, demotes, in_term, is_row_told, joins, promotes, waits_for_position, waits_told, feeds}
 use Rattle.shard_calls.proofs.LawLemmas.{chosen}
-use Rattle.shard_calls.proofs.LogLemmas.{has_row-push}
 
 -- no answer to it is that it is stale
 abbrev pub IsFresh : Answer → Type 0
@@ -135,15 +133,3 @@ held_position g me u until p s h =
     of_test : (b : Bool) → cond b says.Holds (says.NotCaughtUp (minus p (position_of s.log))) ≡ says.Holds → b ≡ true
     of_test true k = refl
     of_test false k = absurd (let bad : says.NotCaughtUp (minus p (position_of s.log)) ≡ says.Holds = k in cc)
-
--- one that it is promoted, that it has the row
-pub promoted_row : (g : Group) (me : Tablet) (u : ℕ) (p q : Position) (s : TabletState) → answer_to g me u (calls.Promote p) s ≡ says.Promoted q
-    → has_row (after_call g me u (calls.Promote p) s).log u ≡ true
-promoted_row g me u p q s h =
-    chosen (λ v. v.says ≡ says.Promoted q → has_row v.state.log u ≡ true) (nat_lt u s.seen) _ (promotes me u p (record s { seen = u }))
-    (λ stale wrong. absurd (let bad : says.StaleTerm s.seen ≡ says.Promoted q = wrong in cc))
-    (λ fresh. chosen (λ v. v.says ≡ says.Promoted q → has_row v.state.log u ≡ true) (has_row s.log u) _ _ (λ row k. row)
-    (λ no_row. chosen (λ v. v.says ≡ says.Promoted q → has_row v.state.log u ≡ true) (covers (position_of s.log) p) _ _
-    (λ enough k. has_row-push s.log (record { gtid = next_gtid me.server s.log; kind = entry_kinds.Row u me.alias }) u
-    ∙ ap (λ (b : Bool). b || has_row s.log u) (itself u))
-    (λ short wrong. absurd (let bad : says.NotCaughtUp (minus p (position_of s.log)) ≡ says.Promoted q = wrong in cc)))) h

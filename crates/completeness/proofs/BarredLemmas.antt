@@ -1,4 +1,4 @@
--- A command that keeps the lock is never told that it has lost it: what the topology refuses it is at most the Take of a lock that is held.
+-- A command that keeps the lock is never told that it has lost it.
 use Rattle.std.proofs.Common.{◌≡◌, ℕ, zero, suc, ◌<◌, Bool, true, false, ◌||◌, ◌==◌, nat_lt, refl, ap, sym, subst, ◌∙◌, arith, cond, List, [], ◌∷◌, Option, Some, None, Result, Ok, Err}
 use Rattle.std.proofs.lemmas.Bool.{false≢true}
 use Rattle.std.proofs.lemmas.Bool.Decides.{nat_tests}
@@ -12,8 +12,6 @@ use Rattle.shard_calls.specs.declared.event.Reply.{Reply}
 use Rattle.shard_calls.specs.declared.event.Reply.TheVariants as replies
 use Rattle.shard_calls.specs.declared.event.Step.{Step}
 use Rattle.shard_calls.specs.declared.post.Message.{Message}
-use Rattle.shard_calls.specs.declared.refusal.Refusal.{Refusal}
-use Rattle.shard_calls.specs.declared.refusal.Refusal.TheVariants as refusals
 use Rattle.shard_calls.specs.declared.span.Asked.{Asked}
 use Rattle.shard_calls.specs.declared.span.Deed.{Deed}
 use Rattle.shard_calls.specs.declared.span.Deed.TheVariants as deeds
@@ -21,7 +19,6 @@ use Rattle.shard_calls.specs.declared.state.Act.{Act}
 use Rattle.shard_calls.specs.declared.state.Act.TheVariants as acts
 use Rattle.shard_calls.specs.declared.state.CommandState.{CommandState}
 use Rattle.shard_calls.specs.Answered.{taken_by_reply, read_by_reply, intended_by_reply, recorded_by_reply, drained_by_reply, sent_by_reply, written_by_reply, told_by_reply, act_of}
-use Rattle.shard_calls.specs.Refusals.{refusal_by_topology}
 use Rattle.shard_calls.specs.Spans.{asked_by, deed_if_asked, deed_of, span_of, span_at, term_wrote, written_in}
 use Rattle.shard_calls.specs.Table.{answer, IsRun}
 use Rattle.shard_calls.specs.World.{Config, World, opening, numbered, term_in, term_of}
@@ -30,7 +27,7 @@ use Rattle.shard_base.specs.Options.{◌>>=◌}
 use Rattle.shard_calls.proofs.RunLemmas.{step_along}
 use Rattle.shard_calls.specs.Promotions.{world_at}
 use Rattle.shard_laws.proofs.EndLemmas.{ActStep, act_step}
-use Rattle.courses.specs.Sound.{IsIn, IsBarred}
+use Rattle.courses.specs.Sound.{IsIn}
 use Rattle.completeness.specs.Kept.{IsKept, asks_topology}
 use Rattle.completeness.proofs.CallLemmas.{acts_so_far, place_in, term_later}
 use Rattle.completeness.proofs.TermLemmas.{TermIs, takes_term, term_numbered}
@@ -270,29 +267,3 @@ no_lost_deed config ss c u i j d run keeps is lost = of_state (numbered (world_a
         act_step c is_lost_act ss j (ap (λ (l : List Act). list_any is_lost_act l) (sym (acts_so_far config ss j c s run here)) ∙ any) in
         never_lost config ss c u i j found.place found.step run keeps found.earlier found.here
         (lost_step c found.step.event found.step.reply found.act found.did found.passes)
-
--- What the topology refused it is that the lock was taken, when it tried to take it before.
-pub data OnlyTaken (span : List Deed) (r : Refusal) : Type 0 where
-  WasTaken : (held : LockTaken) → IsIn span (deeds.Took (Err held)) → r ≡ refusals.LockTaken held.term held.actor → OnlyTaken span r
-
-pub barred_by_take : (config : Config) (ss : List Step) (c u i j : ℕ) (r : Refusal) → IsRun config ss → IsKept ss c u i j → IsBarred (span_of (world_at config ss j) c) r
-    → OnlyTaken (span_of (world_at config ss j) c) r
-barred_by_take config ss c u i j r run keeps bars = of_deed bars.deed bars.stands bars.refused
-  where
-    lost_so : (d : Deed) → IsIn (span_of (world_at config ss j) c) d → is_lost_deed d ≡ true → OnlyTaken (span_of (world_at config ss j) c) r
-    lost_so d is lost = absurd (no_lost_deed config ss c u i j d run keeps is lost)
-
-    of_deed : (d : Deed) → IsIn (span_of (world_at config ss j) c) d → refusal_by_topology d ≡ Some r → OnlyTaken (span_of (world_at config ss j) c) r
-    of_deed (deeds.Took (Ok t)) is h = absurd (let none : None ≡ Some r = h in cc)
-    of_deed (deeds.Took (Err held)) is h = WasTaken held is (let some : Some (refusals.LockTaken held.term held.actor) ≡ Some r = h in cc)
-    of_deed (deeds.Read (Ok seen)) is h = absurd (let none : None ≡ Some r = h in cc)
-    of_deed (deeds.Read (Err t)) is h = lost_so (deeds.Read (Err t)) is refl
-    of_deed (deeds.Intended a (Ok x)) is h = absurd (let none : None ≡ Some r = h in cc)
-    of_deed (deeds.Intended a (Err t)) is h = lost_so (deeds.Intended a (Err t)) is refl
-    of_deed (deeds.Recorded a (Ok x)) is h = absurd (let none : None ≡ Some r = h in cc)
-    of_deed (deeds.Recorded a (Err t)) is h = lost_so (deeds.Recorded a (Err t)) is refl
-    of_deed (deeds.Drained a (Ok x)) is h = absurd (let none : None ≡ Some r = h in cc)
-    of_deed (deeds.Drained a (Err t)) is h = lost_so (deeds.Drained a (Err t)) is refl
-    of_deed (deeds.Asked x) is h = absurd (let none : None ≡ Some r = h in cc)
-    of_deed (deeds.Wrote a reply) is h = absurd (let none : None ≡ Some r = h in cc)
-    of_deed (deeds.Told committed) is h = absurd (let none : None ≡ Some r = h in cc)

@@ -13,10 +13,6 @@ use Rattle.shard_calls.specs.declared.span.Deed.{Deed}
 use Rattle.shard_calls.specs.Choosing.{better, best_from, chosen, first_of, follower, is_free, number_among, outcome_of, size_by, unless_barred}
 use Rattle.completeness.specs.Planned.{FirstIsLeft, FollowerIsLeft}
 
--- no refusal where there is none
-pub not_refused : (o : Option Refusal) (r : Refusal) → o ≡ None → o ≡ Some r → ⊥
-not_refused o r none some = let wrong : None ≡ Some r = sym none ∙ some in cc
-
 -- ---- where a tablet is left, one is chosen
 
 pub not_chosen : (o : Option Alias) (why : List Rejected) (r : Refusal) → chosen o why ≡ Err r → o ≡ None
